@@ -1,0 +1,3 @@
+mod Turns
+mod Windows
+mod Packets

@@ -1,0 +1,9 @@
+pub mod Sweep
+pub mod Fresh
+pub mod Steadies
+pub mod Totals
+pub mod Changes
+pub mod Queues
+pub mod Heads
+pub mod Bits
+pub mod Lengths

@@ -1,0 +1,8 @@
+pub mod Room
+pub mod Records
+pub mod Untouched
+pub mod Views
+pub mod Needed
+pub mod Sound
+pub mod Waiting
+pub mod Calls

@@ -1,0 +1,7 @@
+pub mod Model
+pub mod Bursts
+pub mod Promises
+pub mod History
+pub mod Ranges
+pub mod Invariants
+pub mod Examples

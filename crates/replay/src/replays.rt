@@ -1,0 +1,43 @@
+// Every call of a list, made in order on one new line.
+ghost use mathlib.Core.Path.{_≡_};
+ghost use mathlib.Core.List.{[]};
+ghost use Rattle.std.specs.declared.option.Option.the-variants.{Some, None};
+ghost use Rattle.std.specs.declared.result.Result.the-variants.{Ok, Err};
+ghost use Rattle.model.specs.Model.{calls-on, make-refusal, replay};
+ghost use Rattle.model.specs.Promises.{Promised};
+ghost use Rattle.line.specs.Calls.{as-rule};
+ghost use Rattle.line.specs.Sound.{Sound};
+ghost use Rattle.line.specs.Views.{state};
+ghost use Rattle.replay.specs.Turns.{calls-of, history-of, run-of, setup-of};
+use line::lined::Line;
+use line::memory::Parts;
+use model::calls::Refusal;
+use ready::queue::Ready;
+use rules::rule::Rule;
+use super::turn::Turn;
+
+// Makes every call of the turns on a line, and fills in the answers.
+fn play<R: Rule + Drop, Q: Ready + Drop>(line: &mut Line<R, Q>, turns: &mut [Turn])
+    requires sound { ⌜ Sound (Q·Ready .keys (now line .finishes)) (Q·Ready .keys (now line .starts)) (state (now line .book)) ⌝ }
+    ensures { λ _. ⌜ run-of (now (line .exit) .rule) (state (now (line .exit) .book)) (now (turns .exit)) ≡ calls-on (as-rule (R·Rule .meaning) (R·Rule .choices) (R·Rule .picked)) (run-of (now (line .entry) .rule) (state (now (line .entry) .book)) []) (calls-of (now (turns .entry))) ⌝ }
+{
+    for turn in turns.iter_mut() {
+        turn.answer = line.serve(turn.call);
+    }
+}
+
+// Makes a line and every call of the turns on it, refused ones included, and fills in the answers.
+pub fn replay<R: Rule + Drop, Q: Ready + Drop>(longest: u64, parts: Parts<R>, turns: &mut [Turn]) -> Result<(), Refusal>
+    ensures told { λ r. ⌜ elim r [ Ok done ↦ make-refusal longest ≡ None | Err e ↦ make-refusal longest ≡ Some e ] ⌝ }
+    ensures answers { λ r. ⌜ elim r [ Ok done ↦ history-of (now (turns .exit)) ≡ replay (as-rule (R·Rule .meaning) (R·Rule .choices) (R·Rule .picked)) (parts .rule) (setup-of longest) (calls-of (now (turns .entry))) .history | Err e ↦ now (turns .exit) ≡ now (turns .entry) ] ⌝ }
+    ensures promised { λ r. ⌜ elim r [ Ok done ↦ Promised (as-rule (R·Rule .meaning) (R·Rule .choices) (R·Rule .picked)) (parts .rule) (setup-of longest) (calls-of (now (turns .entry))) | Err e ↦ Unit {0} ] ⌝ }
+{
+    let made: Result<Line<R, Q>, (Refusal, Parts<R>)> = Line::make(longest, parts);
+    match made {
+        Err((refusal, _)) => Err(refusal),
+        Ok(mut line) => {
+            play(&mut line, turns);
+            Ok(())
+        }
+    }
+}

@@ -1,0 +1,2 @@
+-- Lemmas on pairs.
+pub mod Choose

@@ -1,0 +1,4 @@
+-- What rules mean.
+pub mod Bases
+pub mod Pairs
+pub mod Program

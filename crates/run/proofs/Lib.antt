@@ -1,0 +1,4 @@
+pub mod Cutting
+pub mod Turns
+pub mod Follows
+pub mod Programs

@@ -1,0 +1,15 @@
+-- What `search` leaves of close_of.
+use borrow.Author.Needs.{needs}
+use mathlib.Core.List.{[], _∷_}
+use Rattle.grammar.specs.Forms.{close-row}
+use Rattle.runfile.proofs.Bodies.{missing, all-held}
+use Rattle.runfile.proofs.forms.close_of.Needs as need
+
+pub returns-in-Some : need.returns-in-Some
+returns-in-Some c = all-held close-row (c .args .slots) (c .in-Some .at ∷ c .in-Some .session ∷ []) (search needs) (search needs, (search needs, tt))
+
+pub returns-in-rest : need.returns-in-rest
+returns-in-rest c = missing close-row (c .args .slots) 1 (search needs) (search needs)
+
+pub returns-in-rest·2 : need.returns-in-rest·2
+returns-in-rest·2 c = missing close-row (c .args .slots) 0 (search needs) (search needs)
