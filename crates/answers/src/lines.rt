@@ -5,13 +5,13 @@ ghost use Rattle.page.specs.Page.{written};
 ghost use lib.Chars.{codes};
 ghost use lib.ListN.{length};
 ghost use mathlib.Core.Path.{_≡_};
+use super::words::refusal_number;
+use super::words::refusal_word;
 use model::calls::Answer;
 use model::calls::Departure;
 use model::calls::Refusal;
 use page::pieces::Piece;
 use page::pieces::put_line;
-use super::words::refusal_number;
-use super::words::refusal_word;
 
 // A call that is done.
 fn put_done(page: &mut [u8], at: usize) -> usize
@@ -82,7 +82,14 @@ pub fn put_answer(page: &mut [u8], at: usize, answer: Answer) -> usize
 }
 
 // The fault of a line, by its number and word.
-pub fn put_fault(page: &mut [u8], at: usize, number: u32, word: &str, line: usize, column: usize) -> usize
+pub fn put_fault(
+    page: &mut [u8],
+    at: usize,
+    number: u32,
+    word: &str,
+    line: usize,
+    column: usize,
+) -> usize
     requires { ⌜ at + length (fault-text number (now word) line column) ≤ length (now page) ⌝ }
     ensures place { λ r. ⌜ r ≡ at + length (fault-text number (now (word .entry)) line column) ⌝ }
     ensures bytes { λ _. ⌜ now (page .exit) ≡ written (now (page .entry)) at (fault-text number (now (word .entry)) line column) ⌝ }

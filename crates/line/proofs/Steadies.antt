@@ -59,8 +59,8 @@ pub divisor-low : (n : ℕ) → bad-interval n ≡ false → n ≤ frame
 divisor-low n e =
     let parts = or-parts (eqb n 0) (not (eqb (frame % n) 0)) e in
     elim (cases-lt frame n) [
-      inl above ↦ absurd (omega (arith, mod-eq-of-lt above, eqb-true (frame % n) 0 (not-false (eqb (frame % n) 0) (parts .1))))
-    | inr le ↦ le
+      | inl above ↦ absurd (omega (arith, mod-eq-of-lt above, eqb-true (frame % n) 0 (not-false (eqb (frame % n) 0) (parts .1))))
+      | inr le ↦ le
     ]
 
 -- the packets that wait are no longer than a line allows

@@ -19,16 +19,16 @@ use Rattle.line.specs.Room.{Has-room, Roomy}
 pub room-more : (ss : List Session) (i : ℕ) (s : Session) → i < length ss → 256 ≤ deque-cap (s .waiting) → Has-room ss i → Has-room (set ss i s) (i + 1)
 room-more ss i s within here before d k below =
     elim (cases-lt k i) [
-      inl low ↦ subst (λ (x : Session). 256 ≤ deque-cap (x .waiting)) (sym (getD-set-other ss i k s d (λ e. omega arith))) (before d k low)
-    | inr high ↦ let e : k ≡ i = omega arith in subst (λ (n : ℕ). 256 ≤ deque-cap (getD (set ss i s) n d .waiting)) (sym e) (subst (λ (x : Session). 256 ≤ deque-cap (x .waiting)) (sym (getD-set-same ss i s d within)) here)
+      | inl low ↦ subst (λ (x : Session). 256 ≤ deque-cap (x .waiting)) (sym (getD-set-other ss i k s d (λ e. omega arith))) (before d k low)
+      | inr high ↦ let e : k ≡ i = omega arith in subst (λ (n : ℕ). 256 ≤ deque-cap (getD (set ss i s) n d .waiting)) (sym e) (subst (λ (x : Session). 256 ≤ deque-cap (x .waiting)) (sym (getD-set-same ss i s d within)) here)
     ]
 
 -- a session's record in the place of another, with its memory
 pub room-set : (ss : List Session) (i : ℕ) (s : Session) → i < length ss → 256 ≤ deque-cap (s .waiting) → Roomy ss → Roomy (set ss i s)
 room-set ss i s within here before d k below =
     elim (cases-eq k i) [
-      inl e ↦ subst (λ (n : ℕ). 256 ≤ deque-cap (getD (set ss i s) n d .waiting)) (sym e) (subst (λ (x : Session). 256 ≤ deque-cap (x .waiting)) (sym (getD-set-same ss i s d within)) here)
-    | inr e ↦ subst (λ (x : Session). 256 ≤ deque-cap (x .waiting)) (sym (getD-set-other ss i k s d e)) (before d k below)
+      | inl e ↦ subst (λ (n : ℕ). 256 ≤ deque-cap (getD (set ss i s) n d .waiting)) (sym e) (subst (λ (x : Session). 256 ≤ deque-cap (x .waiting)) (sym (getD-set-same ss i s d within)) here)
+      | inr e ↦ subst (λ (x : Session). 256 ≤ deque-cap (x .waiting)) (sym (getD-set-other ss i k s d e)) (before d k below)
     ]
 
 -- f at one session more, in a sweep over all

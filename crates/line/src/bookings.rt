@@ -5,17 +5,17 @@ ghost use Rattle.model.specs.declared.calls.Call.the-variants.{Open, Close, Cha
 ghost use Rattle.model.specs.Invariants.{Steady};
 ghost use Rattle.model.specs.Model.{made, refusal};
 ghost use Rattle.line.specs.Views.{after, said, state, told};
+use super::book::Book;
+use super::memory::Memory;
+use super::sessions::FRAME;
+use super::sessions::bad_interval;
+use super::wire::Wire;
 use model::calls::Arrival;
 use model::calls::Change;
 use model::calls::Choice;
 use model::calls::Closing;
 use model::calls::Opening;
 use model::calls::Refusal;
-use super::book::Book;
-use super::memory::Memory;
-use super::sessions::FRAME;
-use super::sessions::bad_interval;
-use super::wire::Wire;
 
 impl Book {
     // The book of a new line.
@@ -170,7 +170,8 @@ impl Book {
         match self.refuse_open(c) {
             Some(refusal) => Err(refusal),
             None => {
-                self.sessions[c.session as usize].open_with(c.interval, c.places);
+                self.sessions[c.session as usize]
+                    .open_with(c.interval, c.places);
                 self.time = c.time;
                 Ok(())
             }
@@ -204,7 +205,8 @@ impl Book {
             Some(refusal) => Err(refusal),
             None => {
                 let potential = self.potential(c.time);
-                self.sessions[c.session as usize].change_to(c.interval, potential, c.time);
+                self.sessions[c.session as usize]
+                    .change_to(c.interval, potential, c.time);
                 self.time = c.time;
                 Ok(())
             }

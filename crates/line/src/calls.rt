@@ -10,6 +10,9 @@ ghost use Rattle.line.specs.Calls.{answer-to, line-after, rule-then};
 ghost use Rattle.line.specs.Needed.{Low};
 ghost use Rattle.line.specs.Sound.{Sound};
 ghost use Rattle.line.specs.Views.{said, state};
+use super::book::Book;
+use super::lined::Line;
+use super::memory::Parts;
 use model::calls::Change;
 use model::calls::Choice;
 use model::calls::Closing;
@@ -18,9 +21,6 @@ use model::calls::Refusal;
 use ready::queue::Ready;
 use ready::queue::set_key;
 use rules::rule::Rule;
-use super::book::Book;
-use super::lined::Line;
-use super::memory::Parts;
 
 const LONGEST: u64 = 9216;
 
@@ -36,7 +36,12 @@ impl<R: Rule + Drop, Q: Ready + Drop> Line<R, Q> {
         }
         let Parts { memory, rule } = parts;
         let book = Book::new(longest, memory);
-        Ok(Line { rule, finishes: Q::empty(), starts: Q::empty(), book })
+        Ok(Line {
+            rule,
+            finishes: Q::empty(),
+            starts: Q::empty(),
+            book,
+        })
     }
 
     // Opens a session.

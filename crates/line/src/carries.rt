@@ -8,15 +8,15 @@ ghost use Rattle.line.specs.Calls.{answer-to, line-after, rule-then};
 ghost use Rattle.line.specs.Records.{sending-of, wire-of};
 ghost use Rattle.line.specs.Sound.{Sound};
 ghost use Rattle.line.specs.Views.{said, state};
+use super::lined::Line;
+use super::wire::Sending;
+use super::wire::Wire;
 use model::calls::Answer;
 use model::calls::Arrival;
 use model::calls::Call;
 use model::calls::Refusal;
 use ready::queue::Ready;
 use rules::rule::Rule;
-use super::lined::Line;
-use super::wire::Sending;
-use super::wire::Wire;
 
 // The answer to a call that is done or refused.
 fn answered(result: Result<(), Refusal>) -> Answer

@@ -13,6 +13,7 @@ use super::sessions::FRAME;
 use super::stamps::advance;
 
 const LATEST: u64 = 1 << 40;
+
 const ALL_PLACES: u64 = 256;
 
 impl Book {

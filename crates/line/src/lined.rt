@@ -1,7 +1,7 @@
 // A line, whatever its rule and its ready queues.
+use super::book::Book;
 use ready::queue::Ready;
 use rules::rule::Rule;
-use super::book::Book;
 
 // The book and the rule of a line, and two ready queues: one has the heads' finishes, the other their starts.
 #[derive(Drop)]

@@ -3,12 +3,12 @@ ghost use mathlib.Core.Path.{_≡_};
 ghost use Rattle.std.specs.Vec.{made};
 ghost use Rattle.model.specs.Model.{made as new-line};
 ghost use Rattle.line.specs.Views.{state};
-use std::alloc::AllocError;
-use std::alloc::Global;
 use super::book::Book;
 use super::memory::Memory;
 use super::session::Session;
 use super::wire::Wire;
+use std::alloc::AllocError;
+use std::alloc::Global;
 
 impl Memory {
     // Want of memory is its only refusal, and no call on a line meets it later.
@@ -53,7 +53,12 @@ impl Memory {
             s.reserve()?;
         }
         let sessions = Box::new(heap, sessions)?;
-        let book = Book { longest: 0, time: 0, wire: Wire::Idle, sessions };
+        let book = Book {
+            longest: 0,
+            time: 0,
+            wire: Wire::Idle,
+            sessions,
+        };
         Ok(Memory { book })
     }
 }

@@ -8,12 +8,13 @@ ghost use Rattle.model.specs.Model.{blank, frame, open-places, share, counted, 
 ghost use Rattle.line.specs.Needed.{Within-frame};
 ghost use Rattle.line.specs.Records.{session-of};
 ghost use Rattle.line.specs.Waiting.{waiting-bit};
+use super::session::Session;
 use std::alloc::AllocError;
 use std::alloc::Global;
 use std::collections::VecDeque;
-use super::session::Session;
 
 pub(crate) const FRAME: u64 = 55_440;
+
 const PLACES: usize = 256;
 
 // Whether an interval is 0 or no divisor of the frame.
@@ -66,7 +67,11 @@ impl Session {
         ensures part { λ r. ⌜ r ≤ frame ⌝ }
     {
         let share = self.share();
-        if at < self.mark { share.max(self.held) } else { share }
+        if at < self.mark {
+            share.max(self.held)
+        } else {
+            share
+        }
     }
 
     // Its places, as long as it is open.
@@ -94,7 +99,11 @@ impl Session {
     pub(crate) fn position(&self, potential: u64) -> u64
         ensures { λ r. ⌜ r ≡ position potential (session-of (now (self .entry))) ⌝ }
     {
-        let level = if self.waits() { self.start } else { self.last_finish };
+        let level = if self.waits() {
+            self.start
+        } else {
+            self.last_finish
+        };
         potential.max(level)
     }
 

@@ -8,10 +8,10 @@ ghost use Rattle.std.specs.Of.VecDeque.{deque-cap};
 ghost use Rattle.model.specs.Model.{advance, any, changed, due, finish, finish-key, first, frame, full, headed, joined, rested, sent, start-key};
 ghost use Rattle.line.specs.Needed.{Low, Within-frame};
 ghost use Rattle.line.specs.Records.{session-of};
-use model::calls::Packet;
-use ready::key::Key;
 use super::session::Session;
 use super::sessions::FRAME;
+use model::calls::Packet;
+use ready::key::Key;
 
 // How far a packet takes its session on.
 pub(crate) fn advance(bytes: u64, interval: u64) -> u64
@@ -96,7 +96,11 @@ impl Session {
         let due = self.due();
         let packet = match self.waiting.remove(0) {
             Some(head) => head,
-            None => Packet { bytes: 0, arrival: 0, entry: 0 },
+            None => Packet {
+                bytes: 0,
+                arrival: 0,
+                entry: 0,
+            },
         };
         self.last_finish = finish;
         self.last_due = due;
@@ -145,13 +149,23 @@ impl Session {
         requires { ⌜ Low (session-of (now self)) ⌝ }
         ensures { λ r. ⌜ r ≡ finish-key (session-of (now (self .entry))) ⌝ }
     {
-        if self.waits() { Some(Key { stamp: self.finish() }) } else { None }
+        if self.waits() {
+            Some(Key {
+                stamp: self.finish(),
+            })
+        } else {
+            None
+        }
     }
 
     // Its head's start as a key, none where no packet waits.
     pub(crate) fn start_key(&self) -> Option<Key>
         ensures { λ r. ⌜ r ≡ start-key (session-of (now (self .entry))) ⌝ }
     {
-        if self.waits() { Some(Key { stamp: self.start }) } else { None }
+        if self.waits() {
+            Some(Key { stamp: self.start })
+        } else {
+            None
+        }
     }
 }

@@ -12,11 +12,11 @@ ghost use Rattle.line.specs.Needed.{Low};
 ghost use Rattle.line.specs.Records.{wire-of};
 ghost use Rattle.line.specs.Views.{state};
 ghost use Rattle.line.specs.Waiting.{waiting-set};
-use model::calls::Arrival;
-use model::calls::Packet;
 use super::book::Book;
 use super::wire::Sending;
 use super::wire::Wire;
+use model::calls::Arrival;
+use model::calls::Packet;
 
 impl Book {
     // A packet waits behind those of its session.
@@ -36,7 +36,13 @@ impl Book {
     {
         let due = self.at(i).due();
         let packet = self.sessions[i].send();
-        self.wire = Wire::Sending(Sending { session: i as u8, packet, due, noted, begun: self.time });
+        self.wire = Wire::Sending(Sending {
+            session: i as u8,
+            packet,
+            due,
+            noted,
+            begun: self.time,
+        });
     }
 
     // Nothing waits: last finishes, held shares and marks become 0, and last dues stay.
@@ -76,7 +82,14 @@ impl Book {
     {
         let i = c.session as usize;
         self.time = c.time;
-        self.enter(i, Packet { bytes: c.bytes, arrival: c.time, entry: 0 });
+        self.enter(
+            i,
+            Packet {
+                bytes: c.bytes,
+                arrival: c.time,
+                entry: 0,
+            },
+        );
         self.send(i, 0);
     }
 
@@ -88,6 +101,13 @@ impl Book {
     {
         let entry = self.potential(c.time);
         self.time = c.time;
-        self.enter(c.session as usize, Packet { bytes: c.bytes, arrival: c.time, entry });
+        self.enter(
+            c.session as usize,
+            Packet {
+                bytes: c.bytes,
+                arrival: c.time,
+                entry,
+            },
+        );
     }
 }

@@ -4,9 +4,9 @@ ghost use Prim.Native.Nat.{_+_, _<_, _≤_, _^_};
 ghost use Rattle.model.specs.Model.{departure, end, on-wire, overdue, potential, wire-ticks};
 ghost use Rattle.line.specs.Needed.{Ends, Timed};
 ghost use Rattle.line.specs.Records.{sending-of, wire-of};
-use model::calls::Departure;
 use super::wire::Sending;
 use super::wire::Wire;
+use model::calls::Departure;
 
 // The ticks that a packet takes on the wire: a line sends a byte a tick.
 fn ticks(bytes: u64) -> u64

@@ -9,12 +9,12 @@ ghost use Rattle.line.specs.Calls.{as-rule};
 ghost use Rattle.line.specs.Sound.{Sound};
 ghost use Rattle.line.specs.Views.{state};
 ghost use Rattle.replay.specs.Turns.{calls-of, history-of, run-of, setup-of};
+use super::turn::Turn;
 use line::lined::Line;
 use line::memory::Parts;
 use model::calls::Refusal;
 use ready::queue::Ready;
 use rules::rule::Rule;
-use super::turn::Turn;
 
 // Makes every call of the turns on a line, and fills in the answers.
 fn play<R: Rule + Drop, Q: Ready + Drop>(line: &mut Line<R, Q>, turns: &mut [Turn])
@@ -27,7 +27,11 @@ fn play<R: Rule + Drop, Q: Ready + Drop>(line: &mut Line<R, Q>, turns: &mut [Tur
 }
 
 // Makes a line and every call of the turns on it, refused ones included, and fills in the answers.
-pub fn replay<R: Rule + Drop, Q: Ready + Drop>(longest: u64, parts: Parts<R>, turns: &mut [Turn]) -> Result<(), Refusal>
+pub fn replay<R: Rule + Drop, Q: Ready + Drop>(
+    longest: u64,
+    parts: Parts<R>,
+    turns: &mut [Turn],
+) -> Result<(), Refusal>
     ensures told { λ r. ⌜ elim r [ Ok done ↦ make-refusal longest ≡ None | Err e ↦ make-refusal longest ≡ Some e ] ⌝ }
     ensures answers { λ r. ⌜ elim r [ Ok done ↦ history-of (now (turns .exit)) ≡ replay (as-rule (R·Rule .meaning) (R·Rule .choices) (R·Rule .picked)) (parts .rule) (setup-of longest) (calls-of (now (turns .entry))) .history | Err e ↦ now (turns .exit) ≡ now (turns .entry) ] ⌝ }
     ensures promised { λ r. ⌜ elim r [ Ok done ↦ Promised (as-rule (R·Rule .meaning) (R·Rule .choices) (R·Rule .picked)) (parts .rule) (setup-of longest) (calls-of (now (turns .entry))) | Err e ↦ Unit {0} ] ⌝ }
@@ -39,5 +43,21 @@ pub fn replay<R: Rule + Drop, Q: Ready + Drop>(longest: u64, parts: Parts<R>, tu
             play(&mut line, turns);
             Ok(())
         }
+    }
+}
+
+// Makes the same calls on two lines with the same rule: they are answered alike, whatever ready queues the lines have.
+pub fn replay_both<R: Rule + Drop, P: Ready + Drop, Q: Ready + Drop>(
+    longest: u64,
+    one: Parts<R>,
+    other: Parts<R>,
+    first: &mut [Turn],
+    second: &mut [Turn],
+) -> Result<(), Refusal>
+    ensures alike { λ r. ⌜ elim r [ Ok done ↦ (one .rule ≡ other .rule → calls-of (now (first .entry)) ≡ calls-of (now (second .entry)) → history-of (now (first .exit)) ≡ history-of (now (second .exit))) | Err e ↦ make-refusal longest ≡ Some e ] ⌝ }
+{
+    match replay::<R, P>(longest, one, first) {
+        Err(refusal) => Err(refusal),
+        Ok(()) => replay::<R, Q>(longest, other, second),
     }
 }

@@ -54,9 +54,10 @@ module _ {X : Type 0} (R : Rule X) (x : X) where
   then-follows (on-line l cs) (linked y st) f (make m) = f
   then-follows (on-line l cs) (linked y st) f (call c) =
       let r = replay R x (setup-of l) cs in
-      let push = calls-push R (new x (setup-of l)) cs c in
-      (ap (λ z. rule-after R z c (refusal (R .choices z) st c)) (f .0) ∙ ap (λ t. rule-after R (r .rule) c (refusal (R .choices (r .rule)) t c)) (f .1) ∙ ap (λ (q : Run X). q .rule) (sym push),
-       ap (λ z. step (R .choices z) (R .means z) st c .state) (f .0) ∙ ap (λ t. step (R .choices (r .rule)) (R .means (r .rule)) t c .state) (f .1) ∙ ap (λ (q : Run X). q .state) (sym push))
+      let push = calls-push R (new x (setup-of l)) cs c in (
+        ap (λ z. rule-after R z c (refusal (R .choices z) st c)) (f .0) ∙ ap (λ t. rule-after R (r .rule) c (refusal (R .choices (r .rule)) t c)) (f .1) ∙ ap (λ (q : Run X). q .rule) (sym push),
+        ap (λ z. step (R .choices z) (R .means z) st c .state) (f .0) ∙ ap (λ t. step (R .choices (r .rule)) (R .means (r .rule)) t c .state) (f .1) ∙ ap (λ (q : Run X). q .state) (sym push),
+      )
   then-follows (on-line l cs) apart f o = absurd f
 
   same-text : (p : Spelled) (s : Stage X) → Follows p s → (n : ℕ) (rd : Reading) → line-text (spelled-reply R x) spelled-after p n rd ≡ line-text (stage-reply R) (stage-after R) s n rd

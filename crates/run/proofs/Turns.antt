@@ -58,10 +58,11 @@ module _ {S : Type 0} (reply : S → Order → Reply) (after : S → Order → S
       ∙ ap (λ n. T ++ run-lines reply after then n (length page - end - length T) (lines (drop (q .at) text))) line
       ∙ ap (λ f. T ++ run-lines reply after then (q .line) f (lines (drop (q .at) text))) free
       ∙ ap (λ x. T ++ run-lines reply after x (q .line) (length new - behind) (lines (drop (q .at) text))) (sym stage) in
-      let sum = ap length adds ∙ length-append T (left new text t q behind) in
-      (omega (arith, sum, moved, inv .0),
-       ap (λ x. written x behind (left new text t q behind)) put ∙ ap (λ e. written (written page end T) e (left new text t q behind)) moved
-       ∙ written-more page end T (left new text t q behind) (omega arith) ∙ ap (written page end) (sym adds) ∙ inv .1)
+      let sum = ap length adds ∙ length-append T (left new text t q behind) in (
+        omega (arith, sum, moved, inv .0),
+        ap (λ x. written x behind (left new text t q behind)) put ∙ ap (λ e. written (written page end T) e (left new text t q behind)) moved
+            ∙ written-more page end T (left new text t q behind) (omega arith) ∙ ap (written page end) (sym adds) ∙ inv .1,
+      )
 
   -- at the end nothing is left
   pub all-written : (page text : List ℕ) (s : S) (p : Place) (end count : ℕ) (done : List ℕ) → length text ≤ p .at → Written page text s p end count done → (end ≡ count) × (page ≡ done)

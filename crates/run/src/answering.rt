@@ -10,6 +10,9 @@ ghost use Rattle.run.specs.Machine.{line-after, line-text};
 ghost use Rattle.run.specs.Placing.{first-line, next-line};
 ghost use Rattle.run.specs.Stages.{stage-after, stage-reply};
 ghost use Rattle.run.specs.Studies.{Sound-study, stage-of};
+use super::faults::RunFault;
+use super::faults::RunFaultFromForm;
+use super::study::Study;
 use answers::lines::put_answer;
 use answers::lines::put_fault;
 use model::calls::Answer;
@@ -18,12 +21,13 @@ use rules::rule::Rule;
 use runfile::forms::read_form;
 use runfile::lines::line_len;
 use runfile::place::Place;
-use super::faults::RunFault;
-use super::faults::RunFaultFromForm;
-use super::study::Study;
 
 // The answer to the line that begins at the place and ends with the text, or its fault.
-fn answer_line<R: Rule + Drop, Q: Ready + Drop>(study: &mut Study<R, Q>, text: &[u8], place: &mut Place) -> Result<Answer, RunFault>
+fn answer_line<R: Rule + Drop, Q: Ready + Drop>(
+    study: &mut Study<R, Q>,
+    text: &[u8],
+    place: &mut Place,
+) -> Result<Answer, RunFault>
     requires sound { ⌜ Sound-study (Q·Ready .keys) (now study) ⌝ }
     requires inside { ⌜ now place .at ≤ length (now text) ⌝ ∗ ⌜ length (now text) ≤ 65536 ⌝ ∗ ⌜ now place .line ≤ 65536 ⌝ ∗ ⌜ now place .column ≡ 1 ⌝ }
     ensures told { λ r. ⌜ outcome-text r ≡ line-text (stage-reply (as-rule (R·Rule .meaning) (R·Rule .choices) (R·Rule .picked))) (stage-after (as-rule (R·Rule .meaning) (R·Rule .choices) (R·Rule .picked))) (stage-of (now (study .entry))) (now (place .entry) .line) (read (drop (now (place .entry) .at) (now (text .entry)))) ⌝ }
@@ -46,7 +50,14 @@ pub(crate) fn put_run_fault(page: &mut [u8], at: usize, fault: RunFault) -> usiz
     ensures place { λ r. ⌜ r ≡ at + length (told-text (told fault)) ⌝ }
     ensures bytes { λ _. ⌜ now (page .exit) ≡ written (now (page .entry)) at (told-text (told fault)) ⌝ }
 {
-    put_fault(page, at, fault.number(), fault.word(), fault.line(), fault.column())
+    put_fault(
+        page,
+        at,
+        fault.number(),
+        fault.word(),
+        fault.line(),
+        fault.column(),
+    )
 }
 
 // Lays the answer to a line, or its fault.
@@ -65,7 +76,13 @@ fn put_outcome(page: &mut [u8], at: usize, outcome: Result<Answer, RunFault>) ->
 
 // Answers the line at the place on the page, from the offset `end` on, and goes on to the next line; tells where the
 // answer ends.
-pub(crate) fn answer_on<R: Rule + Drop, Q: Ready + Drop>(study: &mut Study<R, Q>, text: &[u8], place: &mut Place, page: &mut [u8], end: usize) -> usize
+pub(crate) fn answer_on<R: Rule + Drop, Q: Ready + Drop>(
+    study: &mut Study<R, Q>,
+    text: &[u8],
+    place: &mut Place,
+    page: &mut [u8],
+    end: usize,
+) -> usize
     requires sound { ⌜ Sound-study (Q·Ready .keys) (now study) ⌝ }
     requires inside { ⌜ now place .at < length (now text) ⌝ ∗ ⌜ length (now text) ≤ 65536 ⌝ ∗ ⌜ now place .line ≤ 65536 ⌝ ∗ ⌜ now place .column ≡ 1 ⌝ }
     requires room { ⌜ end + 192 ≤ length (now page) ⌝ }
@@ -78,6 +95,10 @@ pub(crate) fn answer_on<R: Rule + Drop, Q: Ready + Drop>(study: &mut Study<R, Q>
 {
     let stop = place.at + line_len(&text[place.at..]);
     let outcome = answer_line(study, &text[..stop], place);
-    *place = Place { at: stop + 1, line: place.line + 1, column: 1 };
+    *place = Place {
+        at: stop + 1,
+        line: place.line + 1,
+        column: 1,
+    };
     put_outcome(page, end, outcome)
 }

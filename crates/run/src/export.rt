@@ -1,6 +1,7 @@
 // The run as a study editor calls it, with the four plain rules and the knock-out tree.
 ghost use lib.ListN.{length};
 ghost use Rattle.run.specs.Program.{Program-kept, Ran};
+use super::runs::run;
 use line::memory::Memory;
 use line::memory::Parts;
 use ready::tree::Tree;
@@ -13,7 +14,6 @@ use rules::program::program_rule;
 use rules::stamp::StampRule;
 use rules::start::StartRule;
 use std::alloc::Global;
-use super::runs::run;
 
 // Runs the text on the page and tells how many bytes are written. The memory of the line is got first; where there is
 // none, nothing is written and the answer is 0.
@@ -24,7 +24,10 @@ pub extern "C" fn waskurin_run(heap: Global, text: &[u8], page: &mut [u8]) -> us
 {
     match Memory::get(heap) {
         Ok(memory) => {
-            let parts: Parts<ProgramRule> = Parts { memory, rule: program_rule() };
+            let parts: Parts<ProgramRule> = Parts {
+                memory,
+                rule: program_rule(),
+            };
             run::<ProgramRule, Tree>(parts, text, page)
         }
         Err(_) => 0,

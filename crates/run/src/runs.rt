@@ -7,14 +7,14 @@ ghost use Rattle.run.specs.Machine.{run-text};
 ghost use Rattle.run.specs.Spelled.{Kept, page-of, spelled-in};
 ghost use Rattle.run.specs.Stages.{stage-after, stage-reply};
 ghost use Rattle.run.specs.Studies.{Sound-study, stage-of};
-use line::memory::Parts;
-use ready::queue::Ready;
-use rules::rule::Rule;
-use runfile::place::Place;
 use super::answering::answer_on;
 use super::answering::put_run_fault;
 use super::faults::RunFault;
 use super::study::Study;
+use line::memory::Parts;
+use ready::queue::Ready;
+use rules::rule::Rule;
+use runfile::place::Place;
 
 // The free bytes without which no line is answered.
 const ROOM: usize = 192;
@@ -26,7 +26,11 @@ const SMALLEST: usize = 32;
 const LONGEST_TEXT: usize = 65_536;
 
 // Answers every line of the text on the page, and tells how many bytes are written.
-fn run_study<R: Rule + Drop, Q: Ready + Drop>(mut study: Study<R, Q>, text: &[u8], page: &mut [u8]) -> usize
+fn run_study<R: Rule + Drop, Q: Ready + Drop>(
+    mut study: Study<R, Q>,
+    text: &[u8],
+    page: &mut [u8],
+) -> usize
     requires sound { ⌜ Sound-study (Q·Ready .keys) study ⌝ }
     ensures count { λ r. ⌜ r ≡ length (run-text (stage-reply (as-rule (R·Rule .meaning) (R·Rule .choices) (R·Rule .picked))) (stage-after (as-rule (R·Rule .meaning) (R·Rule .choices) (R·Rule .picked))) (stage-of study) (length (now (page .entry))) (now (text .entry))) ⌝ }
     ensures bytes { λ _. ⌜ now (page .exit) ≡ written (now (page .entry)) 0 (run-text (stage-reply (as-rule (R·Rule .meaning) (R·Rule .choices) (R·Rule .picked))) (stage-after (as-rule (R·Rule .meaning) (R·Rule .choices) (R·Rule .picked))) (stage-of study) (length (now (page .entry))) (now (text .entry))) ⌝ }
@@ -37,7 +41,11 @@ fn run_study<R: Rule + Drop, Q: Ready + Drop>(mut study: Study<R, Q>, text: &[u8
     if text.len() > LONGEST_TEXT {
         return put_run_fault(page, 0, RunFault::Text);
     }
-    let mut place = Place { at: 0, line: 1, column: 1 };
+    let mut place = Place {
+        at: 0,
+        line: 1,
+        column: 1,
+    };
     let mut end = 0;
     while place.at < text.len() {
         if page.len() - end < ROOM {

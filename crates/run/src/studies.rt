@@ -5,6 +5,7 @@ ghost use Rattle.runfile.specs.Forming.{form-of};
 ghost use Rattle.run.specs.Orders.{call as calls, make as makes, order-of};
 ghost use Rattle.run.specs.Stages.{stage-after, stage-reply, unlinked};
 ghost use Rattle.run.specs.Studies.{Sound-study, reply-of, stage-of};
+use super::study::Study;
 use line::lined::Line;
 use line::memory::Parts;
 use model::calls::Answer;
@@ -17,7 +18,6 @@ use model::calls::Opening;
 use ready::queue::Ready;
 use rules::rule::Rule;
 use runfile::forms::Form;
-use super::study::Study;
 
 impl<R: Rule + Drop, Q: Ready + Drop> Study<R, Q> {
     // A study with no line yet.
@@ -25,7 +25,10 @@ impl<R: Rule + Drop, Q: Ready + Drop> Study<R, Q> {
         ensures stage { λ r. ⌜ stage-of r ≡ unlinked (parts .rule) ⌝ }
         ensures sound { λ r. ⌜ Sound-study (Q·Ready .keys) r ⌝ }
     {
-        Study { parts: Some(parts), line: None }
+        Study {
+            parts: Some(parts),
+            line: None,
+        }
     }
 
     // Makes the line, unless there is one.
@@ -75,11 +78,30 @@ impl<R: Rule + Drop, Q: Ready + Drop> Study<R, Q> {
     {
         match form {
             Form::Link(f) => self.link(f.longest),
-            Form::Open(f) => self.call(Call::Open(Opening { session: f.session, interval: f.interval, places: f.places, time: f.at })),
-            Form::Close(f) => self.call(Call::Close(Closing { session: f.session, time: f.at })),
-            Form::Change(f) => self.call(Call::Change(Change { session: f.session, interval: f.interval, time: f.at })),
-            Form::Pick(f) => self.call(Call::Pick(Choice { number: f.rule, time: f.at })),
-            Form::Arrive(f) => self.call(Call::Arrive(Arrival { session: f.session, bytes: f.bytes, time: f.at })),
+            Form::Open(f) => self.call(Call::Open(Opening {
+                session: f.session,
+                interval: f.interval,
+                places: f.places,
+                time: f.at,
+            })),
+            Form::Close(f) => self.call(Call::Close(Closing {
+                session: f.session,
+                time: f.at,
+            })),
+            Form::Change(f) => self.call(Call::Change(Change {
+                session: f.session,
+                interval: f.interval,
+                time: f.at,
+            })),
+            Form::Pick(f) => self.call(Call::Pick(Choice {
+                number: f.rule,
+                time: f.at,
+            })),
+            Form::Arrive(f) => self.call(Call::Arrive(Arrival {
+                session: f.session,
+                bytes: f.bytes,
+                time: f.at,
+            })),
             Form::Depart => self.call(Call::Depart),
         }
     }

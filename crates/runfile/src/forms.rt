@@ -112,7 +112,11 @@ fn change_of(slots: [Option<u64>; 3]) -> Option<Form>
     ensures { λ r. ⌜ filled-of r ≡ filled change-row slots ⌝ }
 {
     match slots {
-        [Some(at), Some(session), Some(interval)] => Some(Form::Change(ChangeForm { at, session, interval })),
+        [Some(at), Some(session), Some(interval)] => Some(Form::Change(ChangeForm {
+            at,
+            session,
+            interval,
+        })),
         _ => None,
     }
 }
@@ -132,7 +136,11 @@ fn arrive_of(slots: [Option<u64>; 3]) -> Option<Form>
     ensures { λ r. ⌜ filled-of r ≡ filled arrive-row slots ⌝ }
 {
     match slots {
-        [Some(at), Some(session), Some(bytes)] => Some(Form::Arrive(ArriveForm { at, session, bytes })),
+        [Some(at), Some(session), Some(bytes)] => Some(Form::Arrive(ArriveForm {
+            at,
+            session,
+            bytes,
+        })),
         _ => None,
     }
 }

@@ -17,10 +17,11 @@ loop-turn-again g c =
     let lt : i < length ts = omega arith in
     let before = c .loop-turn .line in
     let after = c .serve-turn .last .self in
-    let serve = c .serve-turn .ensures in
-    (serve .sound,
-     one-more (as-rule (g .R·Rule .meaning) (g .R·Rule .choices) (g .R·Rule .picked)) (before .rule) (after .rule) (state (before .book)) (state (after .book)) ts i _ _ _ lt (serve .told) (serve .rule) (serve .after) (c .loop-turn .inv .1),
-     length-set ts i _ ∙ c .loop-turn .inv .2)
+    let serve = c .serve-turn .ensures in (
+      serve .sound,
+      one-more (as-rule (g .R·Rule .meaning) (g .R·Rule .choices) (g .R·Rule .picked)) (before .rule) (after .rule) (state (before .book)) (state (after .book)) ts i _ _ _ lt (serve .told) (serve .rule) (serve .after) (c .loop-turn .inv .1),
+      length-set ts i _ ∙ c .loop-turn .inv .2,
+    )
 
 pub returns : need.returns
 returns g c =

@@ -13,5 +13,5 @@ abbrev pub Inv-loop-turn : given.InvT-loop-turn
 Inv-loop-turn g l =
     Sound (g .Q·Ready .keys (l .line .finishes)) (g .Q·Ready .keys (l .line .starts)) (state (l .line .book))
     × Told (as-rule (g .R·Rule .meaning) (g .R·Rule .choices) (g .R·Rule .picked)) (l .line .rule) (state (l .line .book)) (l .turns) (l .turn-index)
-        (calls-on (as-rule (g .R·Rule .meaning) (g .R·Rule .choices) (g .R·Rule .picked)) (run-of (l .entry .line .rule) (state (l .entry .line .book)) []) (calls-of (l .entry .turns)))
+    (calls-on (as-rule (g .R·Rule .meaning) (g .R·Rule .choices) (g .R·Rule .picked)) (run-of (l .entry .line .rule) (state (l .entry .line .book)) []) (calls-of (l .entry .turns)))
     × (length (l .turns) ≡ length (l .entry .turns))

@@ -45,13 +45,14 @@ loop-place-again g c =
     let l = c .loop-place in
     let on = c .answer-on-end in
     let long : length (on .last .page) ≡ length (l .page) = omega arith in
-    let next = on .ensures .place in
-    (omega (arith, ap (λ x. x .at) next, ap (λ x. x .line) next, l .inv .0),
-     ap (λ x. x .column) next,
-     omega (arith, on .ensures .near, l .inv .2, long),
-     on .ensures .sound,
-     one-line A B (l .page) (on .last .page) (c .args .text .now) (stage-of (l .study)) (stage-of (on .last .study)) (l .place) (on .last .place) (l .end) (on .result) _ _ (omega arith) (omega arith) long
-     (on .ensures .told) (on .ensures .near) (on .ensures .bytes) (on .ensures .after) next (l .inv .4))
+    let next = on .ensures .place in (
+      omega (arith, ap (λ x. x .at) next, ap (λ x. x .line) next, l .inv .0),
+      ap (λ x. x .column) next,
+      omega (arith, on .ensures .near, l .inv .2, long),
+      on .ensures .sound,
+      one-line A B (l .page) (on .last .page) (c .args .text .now) (stage-of (l .study)) (stage-of (on .last .study)) (l .place) (on .last .place) (l .end) (on .result) _ _ (omega arith) (omega arith) long
+          (on .ensures .told) (on .ensures .near) (on .ensures .bytes) (on .ensures .after) next (l .inv .4),
+    )
 
 pub returns : need.returns
 returns g c =

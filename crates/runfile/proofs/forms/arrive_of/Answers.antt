@@ -15,4 +15,4 @@ pub returns-in-rest·2 : need.returns-in-rest·2
 returns-in-rest·2 c = missing arrive-row (c .args .slots) 1 (search needs) (search needs)
 
 pub returns-in-rest·3 : need.returns-in-rest·3
-returns-in-rest·3 c = missing arrive-row (c .args .slots) 0 (search needs) (search needs)
+returns-in-rest·3 = λ c. missing arrive-row (c .args .slots) 0 (search needs) (search needs)

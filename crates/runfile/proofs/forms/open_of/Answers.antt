@@ -15,7 +15,7 @@ pub returns-in-rest·2 : need.returns-in-rest·2
 returns-in-rest·2 c = missing open-row (c .args .slots) 2 (search needs) (search needs)
 
 pub returns-in-rest·3 : need.returns-in-rest·3
-returns-in-rest·3 c = missing open-row (c .args .slots) 1 (search needs) (search needs)
+returns-in-rest·3 = λ c. missing open-row (c .args .slots) 1 (search needs) (search needs)
 
 pub returns-in-rest·4 : need.returns-in-rest·4
 returns-in-rest·4 c = missing open-row (c .args .slots) 0 (search needs) (search needs)
