@@ -1,0 +1,4 @@
+pub mod Late
+pub mod Half
+pub mod Next
+pub mod Unheld
