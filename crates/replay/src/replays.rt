@@ -54,6 +54,9 @@ pub fn replay_both<R: Rule + Drop, P: Ready + Drop, Q: Ready + Drop>(
     first: &mut [Turn],
     second: &mut [Turn],
 ) -> Result<(), Refusal>
+    ensures told { λ r. ⌜ elim r [ Ok done ↦ make-refusal longest ≡ None | Err e ↦ make-refusal longest ≡ Some e ] ⌝ }
+    ensures first { λ r. ⌜ elim r [ Ok done ↦ history-of (now (first .exit)) ≡ replay (as-rule (R·Rule .meaning) (R·Rule .choices) (R·Rule .picked)) (one .rule) (setup-of longest) (calls-of (now (first .entry))) .history | Err e ↦ now (first .exit) ≡ now (first .entry) ] ⌝ }
+    ensures second { λ r. ⌜ elim r [ Ok done ↦ history-of (now (second .exit)) ≡ replay (as-rule (R·Rule .meaning) (R·Rule .choices) (R·Rule .picked)) (other .rule) (setup-of longest) (calls-of (now (second .entry))) .history | Err e ↦ now (second .exit) ≡ now (second .entry) ] ⌝ }
     ensures alike { λ r. ⌜ elim r [ Ok done ↦ (one .rule ≡ other .rule → calls-of (now (first .entry)) ≡ calls-of (now (second .entry)) → history-of (now (first .exit)) ≡ history-of (now (second .exit))) | Err e ↦ make-refusal longest ≡ Some e ] ⌝ }
 {
     match replay::<R, P>(longest, one, first) {
