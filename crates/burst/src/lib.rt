@@ -1,4 +1,6 @@
 // The burst tool: the burst figure of a list of packets at an interval.
+#![tactic(auto)]
+
 ghost use Rattle.std.specs.Prelude.{◌≡◌};
 ghost use Rattle.burst.specs.Laws.{BurstGreatest, FigureGreatest, SoundTaken};
 ghost use Rattle.burst.specs.Tool.{figure_of};

@@ -1,4 +1,6 @@
 // Laws of a line and worked runs: what each part of the rules is for.
+#![tactic(auto)]
+
 ghost use Rattle.examples.specs.Late.{LongestNeeded};
 ghost use Rattle.examples.specs.Half.{AnotherLawfulRule};
 ghost use Rattle.examples.specs.Next.{NextPacketLaw};

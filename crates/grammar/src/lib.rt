@@ -1,4 +1,6 @@
 // What is promised of the grammar of run files and of its reader: each function's contract is one theorem.
+#![tactic(auto)]
+
 ghost use Rattle.grammar.specs.Claims.{ColumnInLine, ColumnsShift, CutsIntoLines, FaultStays, FewLines, JoinsBack, OneCut, OneForm, ReadsWhatIsSpelled};
 ghost use Rattle.grammar.specs.Examples.{Examples};
 ghost use Rattle.grammar.specs.Lines.{FirstLine};

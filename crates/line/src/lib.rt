@@ -1,4 +1,6 @@
 // A line: sessions that hold shares of it, and the calls that open and close them.
+#![tactic(auto)]
+
 pub mod book;
 mod bookings;
 mod calls;

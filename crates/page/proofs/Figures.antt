@@ -14,7 +14,7 @@ length_more n big fits = ap length (shelf.decimal_step n big fits) ∙ length-ap
 
 -- a number below 10 to the k has at most k digits, and one of 32 or 64 bits at most 10 or 20
 pub length_decimal_le : (k n : ℕ) → 0 < k → n < 10 ^ k → n < 2 ^ 64 → length (decimal n) ≤ k
-length_decimal_le k n some small fits = shelf.length_decimal_le k n some small fits
+length_decimal_le k n some small fits = shelf.length-decimal-le k n some small fits
 
 pub length_decimal_32 : (n : ℕ) → n < 2 ^ 32 → length (decimal n) ≤ 10
 length_decimal_32 n fits = length_decimal_le 10 n (omega arith) (omega arith) (omega arith)

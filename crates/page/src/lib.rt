@@ -1,4 +1,6 @@
 // Text laid on a lent page: bytes, numbers and whole lines, and the place behind each.
+#![tactic(auto)]
+
 ghost use Rattle.std.specs.Prelude.{◌≡◌, ◌+◌, ◌≤◌, length};
 ghost use Rattle.page.specs.Page.{written};
 

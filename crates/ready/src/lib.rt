@@ -1,4 +1,6 @@
 // Ready queues: for each of 32 sessions a key or none, and the least of the keys.
+#![tactic(auto)]
+
 pub mod entry;
 pub mod key;
 pub mod laws;

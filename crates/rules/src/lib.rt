@@ -1,4 +1,6 @@
 // Recalibration rules: from the least start and the least finish of the waiting heads to a base.
+#![tactic(auto)]
+
 mod alone;
 pub mod clock;
 pub mod frame;

@@ -1,4 +1,6 @@
 // The reader of run files: cuts a text into lines, and reads a line as a form, or as a fault with its place.
+#![tactic(auto)]
+
 pub mod faults;
 mod fields;
 pub mod forms;

@@ -4,4 +4,4 @@ use Rattle.page.proofs.overwrite.Goals as goal
 
 pub returns : goal.returns
 returns c =
-    part_written c.args.page.now c.args.at c.args.bytes.now c.copy-from-slice.new.self c.copy-from-slice.ensures.after
+    part_written c.args.page.now c.args.at c.args.bytes.now c.copy_from_slice.new.self c.copy_from_slice.ensures.after

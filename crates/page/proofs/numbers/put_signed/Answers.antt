@@ -9,11 +9,11 @@ use Rattle.page.proofs.numbers.put_signed.Goals as goal
 
 pub returns : goal.returns
 returns c =
-    let abs : c.unsigned-abs-2.result ≡ nat_abs c.args.number = c.unsigned-abs-2.ensures.value ∙ ap nat_abs (to_z-of_z _ _ c.ranges.number) in
-    let is : 45 ∷ decimal c.unsigned-abs-2.result ≡ signed_decimal c.args.number = ap (λ n. 45 ∷ decimal n) abs ∙ sym (minus c.args.number (grind (arith, ints))) in
+    let abs : c.unsigned_abs-2.result ≡ nat_abs c.args.number = c.unsigned_abs-2.ensures.value ∙ ap nat_abs (to_z-of_z _ _ c.ranges.number) in
+    let is : 45 ∷ decimal c.unsigned_abs-2.result ≡ signed_decimal c.args.number = ap (λ n. 45 ∷ decimal n) abs ∙ sym (minus c.args.number (grind (arith, ints))) in
     record {
-      place = omega (arith, ap length is, c.put-byte-behind.ensures.place, c.put-number-2.ensures.place);
-      bytes = c.put-number-2.ensures.bytes
-          ∙ written_behind c.args.page.now c.put-byte-behind.new.page c.args.at c.put-byte-behind.result (45 ∷ []) (decimal c.unsigned-abs-2.result) (omega (arith, ap length is)) c.put-byte-behind.ensures.bytes c.put-byte-behind.ensures.place
+      place = omega (arith, ap length is, c.put_byte-behind.ensures.place, c.put_number-2.ensures.place);
+      bytes = c.put_number-2.ensures.bytes
+          ∙ written_behind c.args.page.now c.put_byte-behind.new.page c.args.at c.put_byte-behind.result (45 ∷ []) (decimal c.unsigned_abs-2.result) (omega (arith, ap length is)) c.put_byte-behind.ensures.bytes c.put_byte-behind.ensures.place
           ∙ ap (written c.args.page.now c.args.at) is;
     }

@@ -26,8 +26,8 @@ more_at pieces i inside = at_drop_more line_text pieces i blank inside
 long_at : (pieces : List Piece) (i : ℕ) → i < length pieces → length (text_from pieces i) ≡ length (text_at pieces i) + length (text_from pieces (i + 1))
 long_at pieces i inside = ap length (more_at pieces i inside) ∙ length-append (text_at pieces i) (text_from pieces (i + 1))
 
-pub put-piece-end-requires : goal.put-piece-end-requires
-put-piece-end-requires c =
+pub put_piece-end-requires : goal.put_piece-end-requires
+put_piece-end-requires c =
     omega (arith, long_at c.args.pieces.now c.loop-piece.piece-index c.loop-piece-test.true, c.loop-piece.invariant.0)
 
 pub loop-piece-preserved : goal.loop-piece-preserved
@@ -35,8 +35,8 @@ loop-piece-preserved c =
     let pieces = c.args.pieces.now in
     let i = c.loop-piece.piece-index in
     let long = long_at pieces i c.loop-piece-test.true in (
-      omega (arith, long, c.loop-piece.invariant.0, c.put-piece-end.ensures.place),
-      written_behind c.loop-piece.page c.put-piece-end.new.page c.loop-piece.end c.put-piece-end.result (text_at pieces i) (text_from pieces (i + 1)) (omega (arith, long, c.loop-piece.invariant.0)) c.put-piece-end.ensures.bytes c.put-piece-end.ensures.place
+      omega (arith, long, c.loop-piece.invariant.0, c.put_piece-end.ensures.place),
+      written_behind c.loop-piece.page c.put_piece-end.new.page c.loop-piece.end c.put_piece-end.result (text_at pieces i) (text_from pieces (i + 1)) (omega (arith, long, c.loop-piece.invariant.0)) c.put_piece-end.ensures.bytes c.put_piece-end.ensures.place
           ∙ ap (written c.loop-piece.page c.loop-piece.end) (sym (more_at pieces i c.loop-piece-test.true))
           ∙ c.loop-piece.invariant.1,
     )

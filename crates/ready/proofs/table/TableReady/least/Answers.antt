@@ -11,5 +11,5 @@ loop-session-init c =
 
 pub loop-session-preserved : goal.loop-session-preserved
 loop-session-preserved c =
-    c.lesser-best.ensures ∙ ap (λ e. lesser e c.loop-session.best) c.entry-of.ensures ∙ ap (lesser _) c.loop-session.invariant
+    c.lesser-best.ensures ∙ ap (λ e. lesser e c.loop-session.best) c.entry_of.ensures ∙ ap (lesser _) c.loop-session.invariant
     ∙ sym (least_more c.args.self.now.slots c.loop-session.session _ (omega arith) (omega arith))
