@@ -6,6 +6,6 @@ use Rattle.runfile.proofs.fields.free_slot.Goals as goal
 
 pub returns-in-Some : goal.returns-in-Some
 returns-in-Some c = record {
-  place = c.unless-taken.ensures ∙ kind_free c.args.kind c.args.slots.now c.args.word.now c.in-Some.slot c.requires c.in-Some.ensures;
-  free = subst (FreeIf c.args.slots.now) (sym c.unless-taken.ensures) (kind_told c.args.kind c.args.slots.now c.args.word.now c.in-Some.slot c.requires c.in-Some.ensures);
+  place = c.unless_taken.ensures ∙ kind_free c.args.kind c.args.slots.now c.args.word.now c.in-Some.slot c.requires c.in-Some.ensures;
+  free = subst (FreeIf c.args.slots.now) (sym c.unless_taken.ensures) (kind_told c.args.kind c.args.slots.now c.args.word.now c.in-Some.slot c.requires c.in-Some.ensures);
 }

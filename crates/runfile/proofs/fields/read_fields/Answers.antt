@@ -9,13 +9,13 @@ use Rattle.runfile.proofs.fields.read_fields.Goals as goal
 
 pub loop-found-preserved : goal.loop-found-preserved
 loop-found-preserved c =
-    let found = c.in-ok-found.ensures in
-    let field = c.in-ok-field.ensures in
-    let bracket : token_of c.in-ok-found.found.token ≡ Some opening = search rules in (
-      one_more (row_of c.args.kind).names c.loop-found.slots c.loop-found.place.column (drop c.loop-found.place.at c.args.text.now) c.in-ok-found.found.place.column
-          c.next.new.place.column (drop c.next.new.place.at c.args.text.now) c.in-ok-field.field.slot c.in-ok-field.field.value
-          c.read-field.new.place.column (drop c.read-field.new.place.at c.args.text.now)
-          (ap (λ o. go (o, c.in-ok-found.found.place.column) c.next.new.place.column (drop c.next.new.place.at c.args.text.now)) (sym bracket) ∙ found.read)
+    let found = c.in_ok-found.ensures in
+    let field = c.in_ok-field-in-Some-Open.ensures in
+    let bracket : token_of c.in_ok-found.found.token ≡ Some opening = search rules in (
+      one_more (row_of c.args.kind).names c.loop-found.slots c.loop-found.place.column (drop c.loop-found.place.at c.args.text.now) c.in_ok-found.found.place.column
+          c.next.new.place.column (drop c.next.new.place.at c.args.text.now) c.in_ok-field-in-Some-Open.field.slot c.in_ok-field-in-Some-Open.field.value
+          c.read_field.new.place.column (drop c.read_field.new.place.at c.args.text.now)
+          (ap (λ o. go (o, c.in_ok-found.found.place.column) c.next.new.place.column (drop c.next.new.place.at c.args.text.now)) (sym bracket) ∙ found.read)
           field.read field.free
           ∙ c.loop-found.invariant.0,
       search rules,

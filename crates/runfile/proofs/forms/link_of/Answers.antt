@@ -7,5 +7,5 @@ use Rattle.runfile.proofs.forms.link_of.Goals as goal
 pub returns-in-Some : goal.returns-in-Some
 returns-in-Some c = all_held link_row c.args.slots (c.in-Some.longest ∷ []) (search rules) (search rules, tt)
 
-pub returns-in-default : goal.returns-in-default
-returns-in-default c = missing link_row c.args.slots 0 (search rules) (search rules)
+pub returns-in_default : goal.returns-in_default
+returns-in_default c = missing link_row c.args.slots 0 (search rules) (search rules)

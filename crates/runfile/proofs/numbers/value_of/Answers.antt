@@ -5,14 +5,14 @@ use Rattle.grammar.specs.Bytes.{number_from}
 use Rattle.runfile.proofs.Digits.{digit_at, below, one_digit_more}
 use Rattle.runfile.proofs.numbers.value_of.Goals as goal
 
-pub overflow-mul-n : goal.overflow-mul-n
-overflow-mul-n c = let b = below c.loop-d.n c.loop-d.d-index 12 c.loop-d.invariant.1 (omega (arith, c.requires.1)) in search rules
+pub overflow_mul-n : goal.overflow_mul-n
+overflow_mul-n c = let b = below c.loop-d.n c.loop-d.d-index 12 c.loop-d.invariant.1 (omega (arith, c.requires.1)) in search rules
 
-pub overflow-sub-n : goal.overflow-sub-n
-overflow-sub-n c = (digit_at c.args.digits.now c.requires.2 c.loop-d.d-index c.loop-d-test.true).0
+pub overflow_sub-n : goal.overflow_sub-n
+overflow_sub-n c = (digit_at c.args.digits.now c.requires.2 c.loop-d.d-index c.loop-d-test.true).0
 
-pub overflow-add-n : goal.overflow-add-n
-overflow-add-n c =
+pub overflow_add-n : goal.overflow_add-n
+overflow_add-n c =
     let b = below c.loop-d.n c.loop-d.d-index 12 c.loop-d.invariant.1 (omega (arith, c.requires.1)) in
     let d = digit_at c.args.digits.now c.requires.2 c.loop-d.d-index c.loop-d-test.true in
     search rules

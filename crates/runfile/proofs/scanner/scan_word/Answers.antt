@@ -6,4 +6,4 @@ use Rattle.runfile.proofs.scanner.scan_word.Goals as goal
 -- Letters are text.
 pub returns-in-Err : goal.returns-in-Err
 returns-in-Err c =
-    absurd (c.in-Err.ensures.cases.0 (letters_text c.args.bytes.now c.split-at.result.0.now c.run-len-n.result c.run-len-n.ensures.value (search rules)))
+    absurd (c.in-Err.ensures.cases.0 (letters_text c.args.bytes.now c.split_at.result.0.now c.run_len-n.result c.run_len-n.ensures.value (search rules)))

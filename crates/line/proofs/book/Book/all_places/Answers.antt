@@ -5,21 +5,21 @@ use Rattle.line.specs.Records.{sessions_of}
 use Rattle.line.proofs.Totals.{one_more, all_of}
 use Rattle.line.proofs.book.Book.all_places.Goals as goal
 
-pub overflow-add-sum : goal.overflow-add-sum
-overflow-add-sum c =
+pub overflow_add-sum : goal.overflow_add-sum
+overflow_add-sum c =
     let ss = c.deref-s-items.result.now in
     let i = c.loop-s.s-index in
     let here : i < length ss = search rules in
     let more = one_more open_places ss i c.s-item.result here in
     let part = sum_by-take-le open_places (sessions_of ss) (i + 1) in
     let all = ap (λ l. sum_by open_places (sessions_of l)) c.deref-s-items.ensures in
-    record { fits = omega (arith, more, part, c.loop-s.invariant, c.open-places-sum.ensures, c.requires.steady.bounds.parts.places) }
+    record { fits = omega (arith, more, part, c.loop-s.invariant, c.open_places-sum.ensures, c.requires.steady.bounds.parts.places) }
 
 pub loop-s-preserved : goal.loop-s-preserved
 loop-s-preserved c =
     let ss = c.deref-s-items.result.now in
     let here : c.loop-s.s-index < length ss = search rules in
-    omega (arith, one_more open_places ss c.loop-s.s-index c.s-item.result here, c.open-places-sum.ensures, c.loop-s.invariant)
+    omega (arith, one_more open_places ss c.loop-s.s-index c.s-item.result here, c.open_places-sum.ensures, c.loop-s.invariant)
 
 pub returns : goal.returns
 returns c =

@@ -6,8 +6,8 @@ use Rattle.line.specs.Views.{state}
 use Rattle.line.proofs.Steadies.{interval_low}
 use Rattle.line.proofs.book.Book.refuse_arrive.Goals as goal
 
-pub bad-length-requires : goal.bad-length-requires
-bad-length-requires c =
+pub bad_length-requires : goal.bad_length-requires
+bad_length-requires c =
     let b = c.args.self.now in
     let st = state b in
     let i = c.args.c.session in

@@ -8,8 +8,8 @@ use Rattle.line.proofs.Lengths.{Short}
 use Rattle.line.proofs.Steadies.{all_short, divisor_low}
 use Rattle.line.proofs.book.Book.refuse_change.Goals as goal
 
-pub too-long-requires : goal.too-long-requires
-too-long-requires c =
+pub too_long-requires : goal.too_long-requires
+too_long-requires c =
     let b = c.args.self.now in
     let st = state b in
     let i = c.args.c.session in

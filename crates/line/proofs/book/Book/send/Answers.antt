@@ -11,18 +11,18 @@ use Rattle.line.proofs.book.Book.send.Goals as goal
 
 pub send-packet-requires : goal.send-packet-requires
 send-packet-requires c =
-    let is = c.deref-mut.ensures.value in
-    at_of Low c.deref-mut.result.now (box_value c.args.self.now.sessions) is c.args.i c.index-deref-mut-i.result (omega (arith, ap length is, c.args.self.now.full)) c.requires.low
+    let is = c.deref_mut.ensures.value in
+    at_of Low c.deref_mut.result.now (box_value c.args.self.now.sessions) is c.args.i c.index-deref_mut-i.result (omega (arith, ap length is, c.args.self.now.full)) c.requires.low
 
 pub returns : goal.returns
 returns c =
     let b = c.args.self.now in
     let st = state b in
     let i = c.args.i in
-    let ss = c.deref-mut.result.now in
+    let ss = c.deref_mut.result.now in
     let bs = box_value b.sessions in
-    let is = c.deref-mut.ensures.value in
-    let d = c.index-deref-mut-i.result in
+    let is = c.deref_mut.ensures.value in
+    let d = c.index-deref_mut-i.result in
     let here : i < length ss = omega (arith, ap length is, b.full) in
     let seen : session_of (get_or ss i d) ≡ at st i = at_of (λ s. s ≡ at st i) ss bs is i d here refl in
     let packet : c.send-packet.result ≡ first (at st i).waiting = c.send-packet.ensures.told ∙ ap (λ s. first s.waiting) seen in

@@ -7,8 +7,8 @@ use Rattle.line.specs.Views.{state}
 use Rattle.line.proofs.Totals.{nothing_counted}
 use Rattle.line.proofs.book.Book.unbooked.Goals as goal
 
-pub overflow-sub-others : goal.overflow-sub-others
-overflow-sub-others c =
+pub overflow_sub-others : goal.overflow_sub-others
+overflow_sub-others c =
     let ss = (state c.args.self.now).sessions in
     let here : c.args.i < length ss = omega (arith, length-map (box_value c.args.self.now.sessions) session_of, c.args.self.now.full) in
     let part = get_or-le-sum_by (counted c.args.at) ss c.args.i blank here in

@@ -12,14 +12,14 @@ loop-i-init c =
     let past : length (state b).sessions ≤ 32 = omega (arith, length-map (box_value b.sessions) session_of, b.full) in
     sym (ap waiting_set (drop_of_length-le (state b).sessions past))
 
-pub overflow-mul-set : goal.overflow-mul-set
-overflow-mul-set c =
+pub overflow_mul-set : goal.overflow_mul-set
+overflow_mul-set c =
     let b = c.args.self.now in
     let full : length (state b).sessions ≡ 32 = length-map (box_value b.sessions) session_of ∙ b.full in
     record { fits = omega (arith, c.loop-i.invariant, set_fits (state b).sessions c.loop-i.i (omega arith) (omega arith) full) }
 
-pub overflow-add-set : goal.overflow-add-set
-overflow-add-set c =
+pub overflow_add-set : goal.overflow_add-set
+overflow_add-set c =
     let b = c.args.self.now in
     let full : length (state b).sessions ≡ 32 = length-map (box_value b.sessions) session_of ∙ b.full in
     let bit = c.waiting_bit.ensures ∙ ap waiting_bit c.at.ensures in

@@ -1,4 +1,5 @@
-use Rattle.std.proofs.Common.{◌≡◌, true, false, List, ◌++◌, deque_items, sym, ap, ◌∙◌, subst, rules, lt-ltb}
+use Rattle.std.proofs.Common.{◌≡◌, true, false, List, deque_items, sym, ap, ◌∙◌, subst, rules, lt-ltb}
+use Rattle.std.specs.VecDeque.Iter.{deque_iter_rest}
 use Rattle.std.specs.List.{AllByRecursion as All}
 use Rattle.model.specs.declared.calls.Packet.{Packet}
 use Rattle.model.specs.Model.{any}
@@ -7,8 +8,8 @@ use Rattle.line.proofs.session.Session.too_long.Goals as goal
 
 pub loop-packet-init : goal.loop-packet-init
 loop-packet-init c =
-    let e : (c.into-iter-packet-iterator.result.upper.now ++ c.into-iter-packet-iterator.result.lower.now) ≡ deque_items c.args.self.now.waiting =
-    ap (λ it. it.upper.now ++ it.lower.now) c.into-iter-packet-iterator.ensures.into-iter-gives ∙ c.iter-packet-items.ensures.rest in
+    let e : deque_iter_rest c.into_iter-packet-iterator.result ≡ deque_items c.args.self.now.waiting =
+    ap deque_iter_rest c.into_iter-packet-iterator.ensures.into_iter_gives ∙ c.iter-packet-items.ensures.rest in
     (subst (All Short) (sym e) c.requires.low.0, ap (any (long c.args.interval)) e)
 
 pub advance-requires : goal.advance-requires
