@@ -4,4 +4,4 @@ use Rattle.burst.proofs.Turns.{proper}
 use Rattle.burst.proofs.figure.Goals as goal
 
 pub greatest-requires : goal.greatest-requires
-greatest-requires c = proper _ _ (sym c.if-is-bad.ensures)
+greatest-requires c = proper _ _ (sym c.if-is_bad.ensures)

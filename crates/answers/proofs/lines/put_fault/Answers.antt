@@ -2,10 +2,10 @@ use Rattle.std.proofs.Common.{◌≡◌}
 use Rattle.answers.specs.Lines.{fault_text}
 use Rattle.answers.proofs.lines.put_fault.Goals as goal
 
-pub put-line-requires : goal.put-line-requires
+pub put_line-requires : goal.put_line-requires
 unfolding fault_text
-put-line-requires c = c.requires
+put_line-requires c = c.requires
 
 pub returns : goal.returns
 unfolding fault_text
-returns c = record { place = c.put-line.ensures.place; bytes = c.put-line.ensures.bytes }
+returns c = record { place = c.put_line.ensures.place; bytes = c.put_line.ensures.bytes }

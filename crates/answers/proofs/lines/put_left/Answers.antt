@@ -6,9 +6,9 @@ use Rattle.answers.proofs.Lengths.{left_short}
 use Rattle.answers.specs.Lines.{left_line, left_text}
 use Rattle.answers.proofs.lines.put_left.Goals as goal
 
-pub put-line-requires : goal.put-line-requires
+pub put_line-requires : goal.put_line-requires
 unfolding left_line
-put-line-requires c =
+put_line-requires c =
     let l = c.args.left in
     let fits : SFits w64 c.args.left.spare = search rules in
     let same : to_z w64 (of_z w64 c.args.left.spare) ≡ c.args.left.spare = to_z-of_z _ _ fits in
@@ -25,7 +25,7 @@ returns c =
     let small : mag c.args.left.spare < 2 ^ 63 = search rules in
     let long = left_short l l.spare (search rules) (search rules) (search rules) (search rules) (search rules) small (search rules) in
     record {
-      near = omega (arith, long, c.put-line.ensures.place, ap length same);
-      place = c.put-line.ensures.place ∙ ap (λ t. c.args.at + length t) same;
-      bytes = c.put-line.ensures.bytes ∙ ap (written c.args.page.now c.args.at) same;
+      near = omega (arith, long, c.put_line.ensures.place, ap length same);
+      place = c.put_line.ensures.place ∙ ap (λ t. c.args.at + length t) same;
+      bytes = c.put_line.ensures.bytes ∙ ap (written c.args.page.now c.args.at) same;
     }

@@ -5,11 +5,11 @@ use Rattle.burst.specs.Tool.{bad_packets}
 use Rattle.burst.proofs.Turns.{stops, goes_on}
 use Rattle.burst.proofs.checks.has_bad_packet.Goals as goal
 
-pub returns-then-is-bad-packet : goal.returns-then-is-bad-packet
-returns-then-is-bad-packet c = sym (stops _ _ _ c.loop-packet-test.true (sym c.if-is-bad-packet.ensures)) ∙ c.loop-packet.invariant
+pub returns-then-is_bad_packet : goal.returns-then-is_bad_packet
+returns-then-is_bad_packet c = sym (stops _ _ _ c.loop-packet-test.true (sym c.if-is_bad_packet.ensures)) ∙ c.loop-packet.invariant
 
 pub loop-packet-preserved : goal.loop-packet-preserved
-loop-packet-preserved c = sym (goes_on _ _ _ c.loop-packet-test.true (sym c.if-is-bad-packet.ensures)) ∙ c.loop-packet.invariant
+loop-packet-preserved c = sym (goes_on _ _ _ c.loop-packet-test.true (sym c.if-is_bad_packet.ensures)) ∙ c.loop-packet.invariant
 
 pub returns : goal.returns
 returns c = sym (at_drop_all (bad_packets c.loop-packet.time) _ _ c.loop-packet-test.false) ∙ c.loop-packet.invariant

@@ -5,14 +5,14 @@ use Rattle.model.specs.Bursts.{burst, brought}
 use Rattle.burst.proofs.Turns.{good_at, one_first, from_here}
 use Rattle.burst.proofs.window.greatest.Goals as goal
 
-pub greatest-at-requires : goal.greatest-at-requires
-greatest-at-requires c = record { inside = c.loop-i-test.true; taken = from_here _ _ _ c.loop-i-test.true c.requires c.loop-i.invariant.0 }
+pub greatest_at-requires : goal.greatest_at-requires
+greatest_at-requires c = record { inside = c.loop-i-test.true; taken = from_here _ _ _ c.loop-i-test.true c.requires c.loop-i.invariant.0 }
 
 pub loop-i-preserved : goal.loop-i-preserved
 loop-i-preserved c =
     let lt = c.loop-i-test.true in
     let step = one_first _ _ c.args.interval c.loop-i.most lt in
-    let most : c.max-most.result ≡ max c.loop-i.most c.greatest-at.result = search rules in
+    let most : c.max-most.result ≡ max c.loop-i.most c.greatest_at.result = search rules in
     ((good_at _ _ _ lt c.loop-i.invariant.0).behind, cc)
 
 pub returns : goal.returns
