@@ -13,7 +13,7 @@ fn words_and_a_number(rt: HostRuntime) -> Result<(), Fail> {
         Piece::Text(")\n"),
     ];
     assert_eq!(rt; put_line(&mut page, 2, &line), 21);
-    assert!(rt; &page[0..25] == b"##(refused 10 share)\n####");
+    assert!(rt; &page[0..25] == b"##(refused 10 share)\n####".as_slice());
     Ok(())
 }
 
@@ -28,6 +28,6 @@ fn signs_and_zero(rt: HostRuntime) -> Result<(), Fail> {
         Piece::Number(18446744073709551615),
     ];
     assert_eq!(rt; put_line(&mut page, 0, &line), 28);
-    assert!(rt; &page[0..30] == b"-1207 0 18446744073709551615##");
+    assert!(rt; &page[0..30] == b"-1207 0 18446744073709551615##".as_slice());
     Ok(())
 }

@@ -10,8 +10,7 @@ use std::alloc::Global;
 
 // Runs the text on the page and tells how many bytes are written. The memory of the line is got first; where there is
 // none, nothing is written and the answer is 0.
-#[unsafe(no_mangle)]
-pub extern "C" fn waskurin_run(heap: Global, text: &[u8], page: &mut [u8]) -> usize
+pub fn waskurin_run(heap: Global, text: &[u8], page: &mut [u8]) -> usize
     ensures ran { Ran text.now page.old result page.new }
     ensures promised { ProgramKept (length page.old) text.now }
 {

@@ -1,6 +1,6 @@
 // Lines that are read, and lines that are not.
 ghost use Rattle.std.specs.Prelude.{◌≡◌, ◌<◌, length};
-ghost use Rattle.grammar.specs.Reader.{read as read-line};
+ghost use Rattle.grammar.specs.Reader.{read as read_line};
 ghost use Rattle.runfile.specs.Forming.{answer_of};
 
 use runfile::faults::FormFault;
@@ -13,7 +13,7 @@ use std::test::Fail;
 // The form of a line that stands at the start of line 7.
 fn read(line: &[u8]) -> Result<Form, FormFault>
     requires { length line.now < 100 }
-    ensures { answer_of result ≡ read-line line.now }
+    ensures { answer_of result ≡ read_line line.now }
 {
     let mut place = Place {
         at: 0,

@@ -1,4 +1,6 @@
 // Runs a study: standard input to a page of 65,536 bytes to standard output.
+#![tactic(auto)]
+
 use run::export::waskurin_run;
 use std::io;
 use std::io::{Read, Write};

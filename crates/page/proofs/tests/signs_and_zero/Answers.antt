@@ -4,6 +4,6 @@ use Rattle.std.specs.Fmt.{digits}
 use Rattle.page.proofs.tests.signs_and_zero.Goals as goal
 
 -- the numbers are written out: the line's length computes
-pub put-line-requires : goal.put-line-requires
+pub put_line-requires : goal.put_line-requires
 unfolding digits
-put-line-requires c = omega arith
+put_line-requires c = omega arith

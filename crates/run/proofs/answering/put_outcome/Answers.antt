@@ -4,8 +4,8 @@ use Rattle.answers.proofs.Lengths.{fault_short}
 use Rattle.run.specs.Faults.{Short, outcome_text, told, told_text}
 use Rattle.run.proofs.answering.put_outcome.Goals as goal
 
-pub put-run-fault-requires : goal.put-run-fault-requires
-put-run-fault-requires c =
+pub put_run_fault-requires : goal.put_run_fault-requires
+put_run_fault-requires c =
     let t = told c.in-Err.fault in
     let s = subst Short c.in-Err.is c.requires.short in
     omega (arith, fault_short t.number t.word t.line t.column s.number s.word s.line s.column, c.requires.room)
@@ -16,7 +16,7 @@ returns-in-Err c =
     let s = subst Short c.in-Err.is c.requires.short in
     let same = ap outcome_text (sym c.in-Err.is) in
     record {
-      place = c.put-run-fault.ensures.place ∙ ap (λ l. c.args.at + length l) same;
-      near = omega (arith, fault_short t.number t.word t.line t.column s.number s.word s.line s.column, c.put-run-fault.ensures.place);
-      bytes = c.put-run-fault.ensures.bytes ∙ ap (written c.args.page.now c.args.at) same;
+      place = c.put_run_fault.ensures.place ∙ ap (λ l. c.args.at + length l) same;
+      near = omega (arith, fault_short t.number t.word t.line t.column s.number s.word s.line s.column, c.put_run_fault.ensures.place);
+      bytes = c.put_run_fault.ensures.bytes ∙ ap (written c.args.page.now c.args.at) same;
     }

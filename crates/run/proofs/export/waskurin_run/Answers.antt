@@ -9,7 +9,7 @@ pub returns-in-Ok : goal.returns-in-Ok
 returns-in-Ok c =
     let size = length c.args.page.now in
     let text = c.args.text.now in
-    let same = ap (λ x. page_of the_rule x size text) c.program-rule.ensures.start in
+    let same = ap (λ x. page_of the_rule x size text) c.program_rule.ensures.start in
     record {
       ran = inl (c.run.ensures.count ∙ ap length same, c.run.ensures.bytes ∙ ap (written c.args.page.now 0) same);
       promised = program_kept size text;

@@ -11,7 +11,7 @@ returns g c =
     let size = length c.args.page.now in
     let same = writes_spelled R c.args.parts.rule (stage_of c.new-study.result) c.new-study.ensures.stage size c.args.text.now in
     record {
-      count = c.run-study.ensures.count ∙ ap length same;
-      bytes = c.run-study.ensures.bytes ∙ ap (written c.args.page.now 0) same;
+      count = c.run_study.ensures.count ∙ ap length same;
+      bytes = c.run_study.ensures.bytes ∙ ap (written c.args.page.now 0) same;
       promised = spelled_kept R c.args.parts.rule (λ y reached. g.met.R.Rule.lawful y) size c.args.text.now;
     }
