@@ -1,5 +1,5 @@
 -- How long an answer line can be.
-use Rattle.std.proofs.Common.{ℕ, ◌+◌, ◌^◌, ◌<◌, ◌≤◌, List, length, ℤ, codes, arith}
+use Rattle.std.proofs.Common.{ℕ, ◌^◌, ◌<◌, ◌≤◌, List, length, ℤ, codes, arith}
 use lib.Signed.{mag}
 use Rattle.page.proofs.Figures.{length_decimal_64, length_decimal_le, length_signed_64}
 use Rattle.std.proofs.lemmas.List.{length-append}

@@ -1,5 +1,5 @@
 -- A rule that keeps the law and is none of the four plain ones.
-use Rattle.std.specs.Prelude.{◌≡◌, ℕ, ◌+◌, ◌/◌, ◌<◌, ◌≤◌, ◌≢◌}
+use Rattle.std.specs.Prelude.{ℕ, ◌+◌, ◌/◌, ◌<◌, ◌≤◌, ◌≢◌}
 use Rattle.rules.specs.Bases.{frame, clock_base, frame_base, start_base, stamp_base}
 use Rattle.model.specs.Model.{Rule, Lawful}
 

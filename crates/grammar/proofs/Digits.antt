@@ -1,5 +1,5 @@
 -- A number read digit by digit is the number that its digits write. Assumes nothing.
-use Rattle.std.proofs.Common.{◌≡◌, ℕ, zero, suc, ◌+◌, ◌-◌, ◌*◌, ◌^◌, List, [], ◌∷◌, length, sym, refl, ap, ◌∙◌, mul_assoc, mul_comm, add-mul, pow-suc, arith}
+use Rattle.std.proofs.Common.{◌≡◌, ℕ, suc, ◌+◌, ◌-◌, ◌*◌, ◌^◌, List, [], ◌∷◌, length, ap, ◌∙◌, mul_assoc, mul_comm, add-mul, pow-suc, arith}
 use Rattle.grammar.specs.Bytes.{number_from, value}
 
 number_behind : (n : ℕ) (ds : List ℕ) → number_from n ds ≡ n * 10 ^ length ds + value ds

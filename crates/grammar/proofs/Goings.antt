@@ -1,15 +1,15 @@
 -- What is spelled is read. Assumes nothing.
-use Rattle.std.proofs.Common.{◌≡◌, ℕ, zero, suc, ◌<◌, Bool, true, false, List, [], ◌∷◌, ◌++◌, map, length, Some, None, Ok, Err, Option, Result, sym, refl, ap, ◌∙◌, subst, arith}
+use Rattle.std.proofs.Common.{◌≡◌, ℕ, zero, suc, ◌<◌, true, false, List, [], ◌∷◌, ◌++◌, map, length, Some, Ok, Option, Result, sym, refl, ap, ◌∙◌, subst, arith}
 use Rattle.grammar.specs.Bytes.{value}
 use Rattle.grammar.specs.Faults.{Fault, no_field, no_word}
 use Rattle.grammar.specs.Forms.{Row, Form, table}
-use Rattle.grammar.specs.Tokens.{Token, opening, closing, word, number, Starts, Tokens}
+use Rattle.grammar.specs.Tokens.{Token, opening, closing, word, number, Tokens}
 use Rattle.grammar.specs.Grammar.{Field, written, meant, put, Shuffled, names, values, Spells}
-use Rattle.grammar.specs.Reader.{Read, go, stop, then, token, taken, expect, or_fault, as_opening, as_closing, as_end, as_number, as_word, as_last, as_next, row_in, place_in, without, field, field_or_end, fields, body, form, Answer, good, wrong, answer, read}
+use Rattle.grammar.specs.Reader.{Read, go, then, taken, expect, or_fault, as_opening, as_closing, as_end, as_number, as_word, as_next, row_in, place_in, without, field, field_or_end, fields, body, form, good, answer, read}
 use Rattle.grammar.proofs.Scans.{at_token, at_end}
 use Rattle.grammar.proofs.Digits.{number_value}
-use Rattle.grammar.proofs.Places.{row_found, Distinct, table_distinct, distinct_put, Placed, placed, shuffled_length}
-use Rattle.grammar.proofs.Tells.{same_good, read_spells}
+use Rattle.grammar.proofs.Places.{row_found, Distinct, table_distinct, distinct_put, placed, shuffled_length}
+use Rattle.grammar.proofs.Tells.{same_good}
 
 -- A reader goes on with a value, and the bytes left have these tokens.
 pub record Goes {A : Type 0} (r : Read A) (a : A) (ts : List Token) : Type 0 where

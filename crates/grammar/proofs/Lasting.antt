@@ -1,12 +1,12 @@
 -- A fault inside a line stays, whatever follows. Assumes nothing.
 use Rattle.std.proofs.Common.{◌≡◌, ℕ, zero, suc, ◌+◌, ◌<◌, ◌≤◌, Bool, true, false, cond, eqb, leb, ◌⊎◌, List, [], ◌∷◌, ◌++◌, length, take, drop, Some, None, Ok, Err, Option, Result, sym, refl, ap, ◌∙◌, subst, inl, inr, ⊎_elim, arith}
 use Rattle.std.proofs.lemmas.List.{length-drop, take-append-le, drop-append-le}
-use Rattle.std.proofs.lemmas.Bool.{cond-true, cond-false}
-use Rattle.grammar.specs.Bytes.{Within, inside, run_length, value}
+use Rattle.std.proofs.lemmas.Bool.{cond-false}
+use Rattle.grammar.specs.Bytes.{inside, run_length}
 use Rattle.grammar.specs.Faults.{Fault, no_bracket, no_word, no_number, no_field}
 use Rattle.grammar.specs.Forms.{Row, Form, table}
-use Rattle.grammar.specs.Tokens.{Token, opening, closing, word, number}
-use Rattle.grammar.specs.Grammar.{put, Spells}
+use Rattle.grammar.specs.Tokens.{Token, word, number}
+use Rattle.grammar.specs.Grammar.{Spells}
 use Rattle.grammar.specs.Reader.{Read, go, stop, then, cut, decide, token, taken, expect, as_opening, as_closing, as_end, as_number, as_word, as_next, row_in, place_in, without, field, field_or_end, fields, body, form, Answer, good, wrong, answer, read}
 use Rattle.grammar.proofs.Scans.{inside_false, run_within}
 use Rattle.grammar.proofs.Goings.{spells_read}

@@ -1,11 +1,10 @@
 -- What the scanner makes of a line's bytes. Assumes nothing.
-use Rattle.std.proofs.Common.{◌≡◌, ℕ, zero, suc, ◌+◌, ◌<◌, ◌≤◌, Bool, true, false, cond, eqb, leb, List, [], ◌∷◌, ◌++◌, length, take, drop, Some, None, Option, sym, refl, ap, ◌∙◌, subst, ⊎_elim, true≢false, arith}
+use Rattle.std.proofs.Common.{◌≡◌, ℕ, zero, suc, ◌+◌, ◌<◌, ◌≤◌, true, false, eqb, leb, List, [], ◌∷◌, ◌++◌, length, take, drop, Some, None, Option, sym, refl, ap, ◌∙◌, ⊎_elim, true≢false, arith}
 use Rattle.std.specs.List.{AllByRecursion as All}
 use Rattle.std.proofs.lemmas.List.{length-take-le, take-append-drop, take_at, drop_at}
 use Rattle.std.proofs.lemmas.Bool.{cond_both, cond-true, cond-false, cases_Bool, and_parts, and_from, leb-true, le-leb, eqb-true, ne_eqb, and_left, lt-leb}
 use Rattle.grammar.specs.Bytes.{Within, inside, run_length, Ends, blanks}
 use Rattle.grammar.specs.Tokens.{Token, opening, closing, word, number, bytes_of, Sound, Apart, Starts, Tokens}
-use Rattle.grammar.specs.Faults.{no_number, no_bracket}
 use Rattle.grammar.specs.Reader.{Read, go, stop, then, cut, decide, token}
 
 -- The test and what it tests.

@@ -1,13 +1,11 @@
 -- Columns counted from farther on. Assumes nothing.
-use Rattle.std.proofs.Common.{◌≡◌, ℕ, zero, suc, ◌+◌, Bool, true, false, cond, eqb, leb, List, [], ◌∷◌, length, take, drop, Some, None, Ok, Err, Option, Result, sym, refl, ap, ◌∙◌, arith}
-use Rattle.std.proofs.lemmas.Bool.{cond_both}
+use Rattle.std.proofs.Common.{◌≡◌, ℕ, zero, suc, ◌+◌, Bool, true, false, cond, eqb, leb, List, [], ◌∷◌, length, take, drop, Some, Ok, Err, Option, Result, refl, ap, ◌∙◌, arith}
 use Rattle.grammar.specs.Bytes.{inside, run_length}
-use Rattle.grammar.specs.Faults.{Fault, no_bracket, no_word, no_number, no_field}
+use Rattle.grammar.specs.Faults.{Fault, no_word, no_field}
 use Rattle.grammar.specs.Forms.{Row, Form, table}
 use Rattle.grammar.specs.Tokens.{Token, opening, closing, word, number}
-use Rattle.grammar.specs.Grammar.{put}
 use Rattle.grammar.specs.Claims.{farther, ColumnsShift}
-use Rattle.grammar.specs.Reader.{Read, go, stop, then, cut, decide, token, taken, expect, as_opening, as_closing, as_end, as_number, as_word, as_next, row_in, place_in, without, field, field_or_end, fields, body, form, answer, read}
+use Rattle.grammar.specs.Reader.{Read, go, stop, then, cut, decide, token, taken, expect, as_opening, as_closing, as_end, as_number, as_word, as_next, row_in, place_in, without, field, field_or_end, fields, body, form, answer}
 
 module _ (k : ℕ) where
   -- The same reader, k columns on.

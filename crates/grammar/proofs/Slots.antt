@@ -1,9 +1,9 @@
 -- Fields read into slots are those read by the names still wanted. Assumes nothing.
-use Rattle.std.proofs.Common.{◌≡◌, ℕ, zero, suc, ◌+◌, ◌<◌, ◌≤◌, Bool, true, false, cond, List, [], ◌∷◌, map, length, set, Some, None, Ok, Err, Option, Result, sym, refl, ap, ◌∙◌, subst, ⊎_elim, arith}
+use Rattle.std.proofs.Common.{◌≡◌, ℕ, zero, suc, ◌<◌, ◌≤◌, Bool, true, false, cond, List, [], ◌∷◌, length, set, Some, None, Ok, Err, Option, Result, sym, refl, ap, ◌∙◌, arith}
 use Rattle.std.specs.Str.{bytes_eq}
 use Rattle.grammar.specs.Tokens.{Token, opening, closing, word, number}
-use Rattle.grammar.specs.Grammar.{put, names, values}
-use Rattle.grammar.specs.Faults.{Fault, no_field, no_bracket}
+use Rattle.grammar.specs.Grammar.{put, values}
+use Rattle.grammar.specs.Faults.{Fault, no_field}
 use Rattle.grammar.specs.Reader.{Read, go, stop, then, token, taken, expect, or_fault, as_word, as_number, as_closing, as_last, as_next, further, place_in, without, field, field_or_end, fields}
 use Rattle.grammar.specs.Slots.{free_place, frees, slot_field, slot_turn, slot_fields, before, all_filled, closed, free, SlotsServe}
 use Rattle.grammar.proofs.Scans.{Told, told_weaker}

@@ -1,5 +1,5 @@
 -- What is read is spelled. Assumes nothing.
-use Rattle.std.proofs.Common.{◌≡◌, ℕ, zero, suc, Bool, true, false, cond, List, [], ◌∷◌, ◌++◌, map, length, Some, None, Option, Result, sym, refl, ap, ◌∙◌, subst}
+use Rattle.std.proofs.Common.{◌≡◌, ℕ, zero, suc, Bool, true, false, List, [], ◌∷◌, ◌++◌, map, length, Some, None, Option, Result, sym, refl, ap, ◌∙◌, subst}
 use Rattle.grammar.specs.Bytes.{value}
 use Rattle.grammar.specs.Faults.{Fault, no_field, no_word}
 use Rattle.grammar.specs.Forms.{Row, Form, table}

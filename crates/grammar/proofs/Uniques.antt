@@ -1,7 +1,7 @@
 -- A line has one list of tokens. Assumes nothing.
 use Rattle.std.proofs.Common.{◌≡◌, ℕ, List, [], ◌∷◌, Some, None, Option, sym, refl, ap, ◌∙◌, subst}
-use Rattle.grammar.specs.Tokens.{Token, Starts, Tokens}
-use Rattle.grammar.specs.Reader.{Read, go, stop, token}
+use Rattle.grammar.specs.Tokens.{Token, Tokens}
+use Rattle.grammar.specs.Reader.{Read, go, stop}
 use Rattle.grammar.proofs.Scans.{at_token, at_end}
 
 -- The token of an answer, and the bytes left.

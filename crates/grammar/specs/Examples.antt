@@ -1,7 +1,7 @@
 -- Lines and what the reader answers.
 use Rattle.std.specs.Prelude.{◌≡◌, ℕ, List, [], ◌∷◌, codes}
 use Rattle.grammar.specs.Faults.{no_bracket, no_word, no_number, no_field}
-use Rattle.grammar.specs.Forms.{Form, link, opens, close, change, pick, arrive, depart}
+use Rattle.grammar.specs.Forms.{link, opens, close, change, pick, arrive, depart}
 use Rattle.grammar.specs.Reader.{Answer, good, wrong, read}
 
 -- A line and its answer.

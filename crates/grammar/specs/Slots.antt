@@ -1,5 +1,5 @@
 -- Fields read into slots, one for each name of a form: the shape that code has.
-use Rattle.std.specs.Prelude.{◌≡◌, ℕ, zero, suc, cond, List, [], ◌∷◌, map, length, Some, None, Ok, Err, Option, Result, slice_set}
+use Rattle.std.specs.Prelude.{◌≡◌, ℕ, zero, suc, cond, List, [], ◌∷◌, map, Some, None, Ok, Err, Option, Result, slice_set}
 use Rattle.std.specs.Str.{bytes_eq}
 use Rattle.grammar.specs.Faults.{Fault, no_bracket, no_field}
 use Rattle.grammar.specs.Tokens.{Token, opening, closing, word, number}

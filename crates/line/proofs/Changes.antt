@@ -1,6 +1,6 @@
 -- One session's record changes, and the others stay.
-use Rattle.std.proofs.Common.{◌≡◌, ℕ, ◌<◌, Bool, true, false, List, map, length, get_or, set, None, sym, refl, ap, ◌∙◌, arith}
-use Rattle.std.proofs.lemmas.List.{get_or-map, length-map, map-set}
+use Rattle.std.proofs.Common.{◌≡◌, ℕ, ◌<◌, Bool, true, false, List, length, get_or, set, None, sym, refl, ap, ◌∙◌}
+use Rattle.std.proofs.lemmas.List.{get_or-map, map-set}
 use Rattle.model.specs.declared.calls.Opening.{Opening}
 use Rattle.model.specs.declared.calls.Call.TheVariants.{Open}
 use Rattle.model.specs.Model as M

@@ -1,5 +1,5 @@
 -- What arrivals and departures leave of the heads' stamps.
-use Rattle.std.proofs.Common.{◌≡◌, ℕ, ◌+◌, ◌<◌, max, Bool, true, false, cond, List, [], ◌∷◌, map, length, get_or, set, Some, None, count_by, Option, sym, refl, ap, ◌∙◌, subst, arith}
+use Rattle.std.proofs.Common.{◌≡◌, ℕ, ◌+◌, ◌<◌, max, true, false, cond, List, [], ◌∷◌, map, length, get_or, set, Some, None, count_by, Option, sym, refl, ap, ◌∙◌, subst, arith}
 use Rattle.std.proofs.lemmas.List.{get_or-set_same, set-set}
 use Rattle.std.proofs.lemmas.Bool.{leb-false}
 use Rattle.ready.specs.declared.key.Key.{Key}

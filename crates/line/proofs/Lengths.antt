@@ -1,5 +1,5 @@
 -- Packets that wait, looked through one by one for one that would be too long.
-use Rattle.std.proofs.Common.{◌≡◌, ℕ, ◌*◌, ◌^◌, ◌<◌, ◌≤◌, Bool, true, false, ◌||◌, ltb, List, [], ◌∷◌, length, refl, ap, ◌∙◌, subst, mul-le-mul, arith}
+use Rattle.std.proofs.Common.{◌≡◌, ℕ, ◌^◌, ◌<◌, ◌≤◌, Bool, true, false, ◌||◌, ltb, List, [], ◌∷◌, length, refl, ap, ◌∙◌, subst, mul-le-mul, arith}
 use Rattle.std.specs.List.{AllByRecursion as All}
 use Rattle.model.specs.declared.calls.Packet.{Packet}
 use Rattle.model.specs.Model.{advance, any, frame}

@@ -1,5 +1,5 @@
 -- What a line that can go on gives to the sums and differences of the code.
-use Rattle.std.proofs.Common.{◌≡◌, ℕ, zero, suc, ◌+◌, ◌*◌, ◌%◌, ◌^◌, ◌<◌, ◌≤◌, true, false, cond, not, eqb, List, [], ◌∷◌, length, None, ap, subst, inl, inr, mod-eq_of_lt, suc-mul, zero-mul, arith}
+use Rattle.std.proofs.Common.{◌≡◌, ℕ, zero, suc, ◌*◌, ◌%◌, ◌^◌, ◌<◌, ◌≤◌, true, false, cond, not, eqb, List, [], ◌∷◌, length, None, ap, subst, inl, inr, mod-eq_of_lt, suc-mul, zero-mul, arith}
 use Rattle.std.specs.List.{AllByRecursion as All}
 use Rattle.std.proofs.ByRecursion.{All-weaker}
 use Rattle.std.proofs.lemmas.Bool.{cases_lt, eqb-true, leb-false, not-false, or_parts}
@@ -13,7 +13,7 @@ use Rattle.model.specs.Model.Wire.{idle, sending}
 use Rattle.model.specs.Invariants.{Steady, Fit, Wired, Bounds, until}
 use Rattle.model.specs.Ranges.{last_time}
 use Rattle.line.proofs.Lengths.{Short}
-use Rattle.line.specs.Needed.{WithinFrame, AllWithin, Ends, Low, Timed}
+use Rattle.line.specs.Needed.{AllWithin, Ends, Low, Timed}
 
 ends_wire : (w : Wire) (t : ℕ) (ss : List Session) → Bounds t w ss → Ends w
 ends_wire idle t ss b = tt

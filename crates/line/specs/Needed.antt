@@ -1,5 +1,5 @@
 -- What the sums and differences of the code need, so that none leaves its range.
-use Rattle.std.specs.Prelude.{◌≡◌, ℕ, ◌+◌, ◌^◌, ◌<◌, ◌≤◌, true, cond, List, length, slice_index_or}
+use Rattle.std.specs.Prelude.{◌≡◌, ℕ, ◌^◌, ◌<◌, ◌≤◌, true, List, length, slice_index_or}
 use Rattle.model.specs.Model.{frame, advance, first, Session, blank, Wire, end}
 use Rattle.model.specs.Model.Wire.{idle, sending}
 

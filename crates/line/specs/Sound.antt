@@ -1,7 +1,6 @@
 -- What ties the ready queues of a line to its book, and lets every call on the line go on.
-use Rattle.std.specs.Prelude.{◌≡◌, ℕ, Some, None, Ok, Err, Option, Result}
+use Rattle.std.specs.Prelude.{◌≡◌}
 use Rattle.ready.specs.Least.{Keys}
-use Rattle.model.specs.declared.calls.Refusal.{Refusal}
 use Rattle.model.specs.Model.{State, finish_keys, start_keys}
 use Rattle.model.specs.Invariants.{Steady}
 

@@ -1,20 +1,19 @@
 -- A due time is never above the arrival and the burst figure. Assumes nothing.
-use Rattle.std.proofs.Common.{◌≡◌, ℕ, ◌+◌, ◌-◌, ◌*◌, ◌<◌, ◌≤◌, max, Bool, true, false, cond, eqb, List, [], ◌∷◌, ◌++◌, map, length, get_or, take, set, Some, None, Option, sym, refl, ap, ◌∙◌, subst, arith}
+use Rattle.std.proofs.Common.{◌≡◌, ℕ, ◌+◌, ◌-◌, ◌≤◌, max, true, false, cond, eqb, List, [], ◌∷◌, ◌++◌, take, Some, None, Option, sym, refl, ap, ◌∙◌, subst, arith}
 use Rattle.std.proofs.lemmas.List.{append_assoc, map-append}
 use Rattle.std.proofs.lemmas.Bool.Decides.{nat_tests}
 use Rattle.model.specs.declared.calls.Refusal.{Refusal}
 use Rattle.model.specs.declared.calls.Call.{Call}
 use Rattle.model.specs.declared.calls.Call.TheVariants.{Open, Close, Change, Pick, Arrive, Depart}
-use Rattle.model.specs.Model.{advance, Sending, Wire, State, Setup, Rule, Lawful, Event, Run, Session, at, end, depart, answered, refusal, outcome, next, new, replay}
+use Rattle.model.specs.Model.{advance, Sending, Wire, State, Setup, Rule, Lawful, Event, Run, Session, end, depart, answered, refusal, outcome, next, new}
 use Rattle.model.specs.Model.Wire.{idle, sending}
 use Rattle.model.specs.Promises.{Past, past, Throughout, Proper, WithinBurst, BurstBound, Promised}
 use Rattle.model.specs.Bursts.{windows, burst, brought}
 use Rattle.model.specs.declared.calls.Parcel.{Parcel}
 use Rattle.model.specs.History.{parcel, parcels, carried, due_after}
 use Rattle.model.proofs.Lists.{Every}
-use Rattle.model.specs.Invariants.{Inv, Kept}
 use Rattle.model.proofs.Tracks.{Ordered, Track}
-use Rattle.model.proofs.Runs.{along, Held, wire_in_time, on_time}
+use Rattle.model.proofs.Runs.{along, wire_in_time, on_time}
 use Rattle.model.proofs.Histories.{Told, Known, known_next, known, no_place_lost}
 
 -- what packets bring in all

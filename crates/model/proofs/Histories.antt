@@ -1,25 +1,21 @@
 -- Every call moves each session as its history says. Assumes nothing.
-use Rattle.std.proofs.Common.{◌≡◌, ℕ, ◌+◌, ◌-◌, ◌*◌, ◌<◌, ◌≤◌, max, Bool, true, false, cond, not, ◌||◌, eqb, ltb, leb, ◌⊎◌, List, [], ◌∷◌, ◌++◌, map, length, get_or, set, replicate, Some, None, Option, sym, refl, ap, ◌∙◌, subst, inl, inr, arith}
+use Rattle.std.proofs.Common.{◌≡◌, ℕ, ◌+◌, ◌<◌, Bool, true, false, cond, not, eqb, ltb, leb, List, [], ◌∷◌, ◌++◌, length, get_or, set, replicate, Some, None, Option, sym, refl, ap, ◌∙◌, subst, inl, inr, arith}
 use lib.ListN.{get_or-map}
 use Rattle.std.proofs.lemmas.List.{length-set, length-append, length-map, get_or-set_same, get_or-set_other, get_or_past, get_or-replicate, length-replicate}
-use Rattle.std.proofs.lemmas.Bool.{false≢true, true≢false, or_parts, not-false, ltb-false, leb-false, leb-true, eqb-true, eqb-false, cases_lt}
+use Rattle.std.proofs.lemmas.Bool.{false≢true, or_parts, not-false, ltb-false, leb-false, eqb-true, eqb-false, cases_lt}
 use Rattle.std.proofs.lemmas.Bool.Decides.{nat_tests}
 use Rattle.model.specs.declared.calls.Packet.{Packet}
-use Rattle.model.specs.declared.calls.Arrival.{Arrival}
 use Rattle.model.specs.declared.calls.Refusal.{Refusal}
 use Rattle.model.specs.declared.calls.Call.{Call}
 use Rattle.model.specs.declared.calls.Call.TheVariants.{Open, Close, Change, Pick, Arrive, Depart}
-use Rattle.model.specs.declared.calls.Answer.{Answer}
-use Rattle.model.specs.declared.calls.Answer.TheVariants.{Done, Left, Refused}
 use Rattle.ready.specs.declared.entry.Entry.{Entry}
-use Rattle.model.specs.Model.{wire_ticks, Session, blank, Sending, Wire, State, Setup, Rule, Lawful, Event, Run, some, waits, first, finish, due, at, end, potential, on_wire, bad_clock, bad_length, opened, closed, changed, joined, sent, rested, later, with_session, sends, arrived, at_rest, least_finish, least_start, freed, departed, depart, commit, answered, checks, refusal, first_of, outcome, next, made, new, replay}
+use Rattle.model.specs.Model.{wire_ticks, Session, blank, Wire, State, Setup, Rule, Lawful, Run, waits, finish, at, end, potential, on_wire, bad_clock, bad_length, opened, closed, changed, joined, sent, rested, later, sends, arrived, at_rest, least_finish, least_start, freed, depart, answered, checks, refusal, first_of, next, new, replay}
 use Rattle.model.specs.Model.Wire.{idle, sending}
-use Rattle.model.specs.Promises.{Past, unopened, opens, closes, changes, accepts, leaves, follow, past, gone_on_wire, FindsPlace, Proper, NoPlaceLost}
-use Rattle.model.specs.declared.calls.Parcel.{Parcel}
+use Rattle.model.specs.Promises.{Past, unopened, opens, closes, changes, accepts, leaves, follow, past, NoPlaceLost}
 use Rattle.model.specs.History.{parcel, parcels, carried, History}
 use Rattle.model.proofs.Lists.{Every, clear}
-use Rattle.model.specs.Invariants.{Inv, Kept}
-use Rattle.model.proofs.Steps.{Chosen, chosen, keeps, kept_made}
+use Rattle.model.specs.Invariants.{Kept}
+use Rattle.model.proofs.Steps.{chosen}
 use Rattle.model.proofs.Tracks.{Track, track_later, track_opened, track_closed, track_changed, track_joined, track_freed, track_rested, track_sent, track_other, moves}
 use Rattle.model.proofs.Runs.{along, Held, held_next, held}
 

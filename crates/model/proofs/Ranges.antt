@@ -1,25 +1,22 @@
 -- How large the numbers of a line grow. Assumes nothing.
-use Rattle.std.proofs.Common.{◌≡◌, ℕ, zero, suc, ◌+◌, ◌-◌, ◌*◌, ◌/◌, ◌^◌, ◌<◌, ◌≤◌, max, Bool, true, false, cond, ◌||◌, eqb, ltb, leb, ◌⊎◌, List, [], ◌∷◌, ◌++◌, map, length, get_or, set, replicate, Some, None, sum_by, Option, sym, refl, ap, ◌∙◌, subst, inl, inr, arith}
-use Rattle.std.specs.List.{AllByRecursion as All}
+use Rattle.std.proofs.Common.{◌≡◌, ℕ, suc, ◌+◌, ◌*◌, ◌/◌, ◌^◌, ◌<◌, ◌≤◌, Bool, true, false, cond, eqb, ltb, leb, List, [], ◌∷◌, map, length, get_or, set, replicate, Some, None, sum_by, Option, sym, refl, ap, ◌∙◌, subst, arith}
 use Rattle.std.proofs.lemmas.List.{length-set, length-append, length-map, get_or-map, get_or-set_same, get_or-replicate, length-replicate}
 use Rattle.std.proofs.lemmas.List.Sums.{sum_by-cons, sum_by-set}
-use Rattle.std.proofs.lemmas.Bool.{false≢true, or_parts, not-false, ltb-false, leb-false, cases_lt}
+use Rattle.std.proofs.lemmas.Bool.{false≢true, or_parts, not-false, ltb-false, leb-false}
 use Rattle.std.proofs.lemmas.Bool.Decides.{nat_tests}
 use Rattle.model.specs.declared.calls.Packet.{Packet}
 use Rattle.model.specs.declared.calls.Refusal.{Refusal}
 use Rattle.model.specs.declared.calls.Call.{Call}
 use Rattle.model.specs.declared.calls.Call.TheVariants.{Open, Close, Change, Pick, Arrive, Depart}
 use Rattle.ready.specs.declared.entry.Entry.{Entry}
-use Rattle.model.specs.Model.{frame, wire_ticks, advance, Session, blank, Sending, Wire, State, Setup, Rule, Reachable, Lawful, Run, share, some, waits, first, behind, finish, due, position, at, end, potential, overdue, bad_clock, bad_places, all_places, full, opened, closed, hold, changed, headed, joined, sent, rested, later, with_session, sends, arrived, at_rest, least_finish, least_start, freed, departed, depart, commit, answered, step, checks, refusal, next, made, new, replay}
+use Rattle.model.specs.Model.{frame, wire_ticks, advance, Session, blank, Sending, Wire, State, Setup, Rule, Reachable, Lawful, Run, share, some, waits, first, behind, finish, due, position, at, end, potential, overdue, bad_clock, all_places, opened, closed, hold, changed, headed, joined, sent, rested, later, arrived, least_finish, least_start, freed, depart, answered, step, checks, refusal, next, new, replay}
 use Rattle.model.specs.Model.Wire.{idle, sending}
 use Rattle.model.specs.Model.Reachable.{unpicked}
-use Rattle.model.specs.Promises.{Proper}
 use Rattle.model.specs.Ranges.{last_time, Small, SmallWire, InRange, Ranges}
-use Rattle.accounts.specs.Accounts as A
 use Rattle.model.proofs.Lists.{Every, every_map, every-push, sum_by_map, at_set, clear}
-use Rattle.model.specs.Invariants.{account, accounts, Good, Each, Base, Inv, Kept, Fit, Ranged, Parts, until, WireSmall, Bounds, Steady, Goes_on, Safe}
-use Rattle.model.proofs.Sessions.{head_fit, head_some, ticks_some, ticks_le, good_joined}
-use Rattle.model.proofs.Steps.{Chosen, chosen, base_low, comes, fit_new, keeps, kept_made}
+use Rattle.model.specs.Invariants.{account, Good, Each, Base, Inv, Kept, Fit, Ranged, Parts, until, WireSmall, Bounds, Steady, Goes_on, Safe}
+use Rattle.model.proofs.Sessions.{head_fit, ticks_some, ticks_le, good_joined}
+use Rattle.model.proofs.Steps.{chosen, base_low, comes, fit_new, keeps, kept_made}
 use Rattle.model.proofs.Runs.{along, reach, longest_answered}
 
 share_le : (s : Session) → share s ≤ frame

@@ -1,24 +1,22 @@
 -- What holds throughout a run. Assumes nothing.
-use Rattle.std.proofs.Common.{◌≡◌, ℕ, ◌+◌, ◌-◌, ◌*◌, ◌<◌, ◌≤◌, max, Bool, true, false, cond, ◌||◌, eqb, ltb, leb, ◌⊎◌, List, [], ◌∷◌, ◌++◌, length, get_or, set, Some, None, Option, sym, refl, ap, ◌∙◌, subst, inl, inr, arith}
+use Rattle.std.proofs.Common.{◌≡◌, ℕ, ◌+◌, ◌-◌, ◌*◌, ◌<◌, ◌≤◌, true, cond, ◌||◌, eqb, ltb, List, [], ◌∷◌, ◌++◌, length, get_or, Some, None, Option, refl, ap, ◌∙◌, subst, arith}
 use Rattle.std.proofs.lemmas.Bool.{eqb-false, leb-false, ltb-false, or_parts}
 use Rattle.model.specs.declared.calls.Refusal.{Refusal}
 use Rattle.model.specs.declared.calls.Refusal.TheVariants as refused
 use Rattle.model.specs.declared.calls.Call.{Call}
 use Rattle.model.specs.declared.calls.Call.TheVariants.{Open, Close, Change, Pick, Arrive, Depart}
-use Rattle.model.specs.declared.calls.Answer.{Answer}
-use Rattle.model.specs.declared.calls.Answer.TheVariants.{Done, Left, Refused}
-use Rattle.model.specs.Model.{frame, wire_ticks, advance, Session, blank, Sending, Wire, State, Setup, Rule, Reachable, Lawful, Event, Run, share, waits, first, finish, due, at, end, potential, checks, refusal, later, arrived, freed, least_finish, least_start, depart, commit, answered, step, rule_after, outcome, next, made, make_refusal, new, calls_on, replay}
+use Rattle.model.specs.Model.{frame, wire_ticks, Session, blank, Sending, Wire, State, Setup, Rule, Reachable, Lawful, Run, share, waits, first, finish, due, end, checks, refusal, later, arrived, freed, least_finish, least_start, depart, answered, rule_after, outcome, next, make_refusal, new, calls_on, replay}
 use Rattle.model.specs.Model.Wire.{idle, sending}
 use Rattle.model.specs.Model.Reachable.{unpicked, picked}
 use Rattle.ready.specs.declared.entry.Entry.{Entry}
-use Rattle.model.specs.Promises.{Throughout, Proper, LeftInTime, NoneLate, OnTime}
+use Rattle.model.specs.Promises.{Throughout, Proper, LeftInTime, OnTime}
 use Rattle.accounts.specs.Accounts as A
 use Rattle.accounts.specs.Accounts.{none}
 use Rattle.accounts.proofs.Lemmas as lemma
 use Rattle.std.proofs.lemmas.List.{length-map, get_or-map}
 use Rattle.model.proofs.Lists.{clear}
-use Rattle.model.specs.Invariants.{account, accounts, Good, Still, Base, Inv, Kept, Safe}
-use Rattle.model.proofs.Sessions.{advance_enough, head_fit, not_waiting, ticks_some}
+use Rattle.model.specs.Invariants.{account, accounts, Inv, Kept, Safe}
+use Rattle.model.proofs.Sessions.{advance_enough, not_waiting}
 use Rattle.model.proofs.Steps.{keeps, kept_made}
 
 -- a property of runs that every call keeps

@@ -1,7 +1,7 @@
 -- Every call keeps the invariant. Assumes nothing.
-use Rattle.std.proofs.Common.{◌≡◌, ℕ, zero, suc, ◌+◌, ◌-◌, ◌*◌, ◌/◌, ◌%◌, ◌^◌, ◌<◌, ◌≤◌, max, Bool, true, false, cond, not, ◌||◌, eqb, ltb, leb, ◌⊎◌, List, [], ◌∷◌, ◌++◌, map, length, get_or, set, replicate, Some, None, sum_by, Option, sym, refl, ap, ◌∙◌, subst, inl, inr, arith}
-use Rattle.std.proofs.lemmas.List.{length-set, get_or-set_same, get_or-set_other, length-map, get_or-map, get_or_past, map-set, set-set, set-get_or, get_or-replicate, length-replicate}
-use Rattle.std.proofs.lemmas.Bool.{cases_Bool, cases_lt, false≢true, or_parts, not-false, ltb-false, leb-false, leb-true, eqb-false, eqb-true}
+use Rattle.std.proofs.Common.{◌≡◌, ℕ, ◌+◌, ◌-◌, ◌*◌, ◌/◌, ◌<◌, ◌≤◌, max, Bool, true, false, cond, eqb, ltb, leb, List, [], ◌∷◌, map, length, get_or, set, replicate, Some, None, sum_by, Option, sym, refl, ap, ◌∙◌, subst, inl, inr, arith}
+use Rattle.std.proofs.lemmas.List.{length-set, get_or-set_same, length-map, get_or-map, get_or_past, map-set, set-get_or, get_or-replicate, length-replicate}
+use Rattle.std.proofs.lemmas.Bool.{cases_lt, false≢true, or_parts, not-false, ltb-false, leb-false, leb-true, eqb-false}
 use Rattle.std.proofs.lemmas.List.Sums.{sum_by-set}
 use Rattle.std.proofs.lemmas.Bool.Decides.{nat_tests}
 use Rattle.model.specs.declared.calls.Packet.{Packet}
@@ -13,15 +13,14 @@ use Rattle.ready.specs.declared.entry.Entry.{Entry}
 use Rattle.ready.specs.Keys.{no_later}
 use Rattle.ready.specs.Least.{Keys, least}
 use Rattle.ready.proofs.Firsts.{least_law}
-use Rattle.model.specs.Model.{frame, wire_ticks, advance, Session, blank, Sending, Wire, State, Setup, share, any, some, waits, first, behind, finish, due, position, counted, bad_interval, bad_length, bad_clock, overdue, draining, bad_places, unbooked, full, busy, end, potential, at, opened, closed, hold, changed, headed, joined, sent, rested, later, with_session, sends, arrived, at_rest, if_waits, least_finish, least_start, freed, departed, depart, commit, answered, step, checks, refusal, made}
+use Rattle.model.specs.Model.{frame, wire_ticks, advance, Session, blank, Sending, Wire, State, Setup, share, any, waits, first, finish, position, counted, bad_interval, bad_length, bad_clock, overdue, end, potential, at, opened, closed, changed, joined, sent, rested, sends, arrived, at_rest, if_waits, least_finish, least_start, freed, departed, depart, commit, answered, step, checks, refusal, made}
 use Rattle.model.specs.Model.Wire.{idle, sending}
 use Rattle.accounts.specs.Accounts as A
 use Rattle.accounts.specs.Accounts.{Account, none, Sound, Fits, Same, Stamped}
-use Rattle.accounts.proofs.Sums.{sum_set}
 use Rattle.accounts.proofs.Lemmas as lemma
-use Rattle.model.proofs.Lists.{Every, every_map, every-push, sum_by_map, at_set, clear, some_is_none, some_same}
-use Rattle.model.specs.Invariants.{account, accounts, Fit, Good, Still, Each, SendsWell, Wired, Base, Inv, Kept, Safe}
-use Rattle.model.proofs.Sessions.{ticks_le, ticks_some, advance_enough, divides, good_later, not_waiting, good_still, opens, good_opened, closes, good_closed, head_some, head_fit, good_changed, lowers, raises, new_share_is, good_sent, sent_well, good_joined, joins}
+use Rattle.model.proofs.Lists.{sum_by_map, at_set, clear, some_is_none, some_same}
+use Rattle.model.specs.Invariants.{account, accounts, Fit, Good, Still, Each, Wired, Base, Inv, Kept, Safe}
+use Rattle.model.proofs.Sessions.{ticks_le, ticks_some, advance_enough, good_later, not_waiting, good_still, opens, good_opened, closes, good_closed, head_some, head_fit, good_changed, lowers, raises, new_share_is, good_sent, sent_well, good_joined, joins}
 
 -- the account of a session
 account_at : (ss : List Session) (i : ℕ) → i < length ss → A.at (accounts ss) i ≡ account (get_or ss i blank)

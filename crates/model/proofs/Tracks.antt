@@ -1,13 +1,13 @@
 -- A session and its history: what was accepted has departed, is on the wire, or waits. Assumes nothing.
-use Rattle.std.proofs.Common.{◌≡◌, ℕ, ◌+◌, ◌-◌, ◌*◌, ◌<◌, ◌≤◌, max, Bool, true, false, cond, not, ◌||◌, eqb, ◌⊎◌, List, [], ◌∷◌, ◌++◌, map, length, get_or, set, sym, refl, ap, ◌∙◌, subst, inl, inr, arith}
-use Rattle.std.proofs.lemmas.List.{append-nil, append_assoc, map-append, length-append, length-map, get_or-set_same, get_or-set_other}
-use Rattle.std.proofs.lemmas.Bool.{false≢true, true≢false, or_parts, eqb-true, eqb-false, cases_Bool}
+use Rattle.std.proofs.Common.{◌≡◌, ℕ, ◌+◌, ◌<◌, ◌≤◌, max, Bool, true, false, cond, eqb, List, [], ◌∷◌, ◌++◌, length, get_or, set, sym, refl, ap, ◌∙◌, subst, arith}
+use Rattle.std.proofs.lemmas.List.{append-nil, append_assoc, map-append, get_or-set_same, get_or-set_other}
+use Rattle.std.proofs.lemmas.Bool.{false≢true, true≢false, eqb-true, eqb-false}
 use Rattle.std.proofs.lemmas.Bool.Decides.{nat_tests}
 use Rattle.model.specs.declared.calls.Packet.{Packet}
 use Rattle.model.specs.declared.calls.Opening.{Opening}
-use Rattle.model.specs.Model.{advance, Session, blank, Sending, Wire, State, some, waits, first, behind, finish, due, on_wire, opened, closed, changed, headed, joined, sent, rested}
+use Rattle.model.specs.Model.{advance, Session, blank, Sending, Wire, some, waits, first, behind, finish, due, on_wire, opened, closed, changed, headed, joined, sent, rested}
 use Rattle.model.specs.Model.Wire.{idle, sending}
-use Rattle.model.specs.Promises.{Past, unopened, opens, closes, changes, accepts, leaves}
+use Rattle.model.specs.Promises.{Past, opens, closes, changes, accepts, leaves}
 use Rattle.model.specs.declared.calls.Parcel.{Parcel}
 use Rattle.model.specs.History.{parcel, parcels, carried, due_after}
 use Rattle.model.proofs.Lists.{Every, every_map, every-push}

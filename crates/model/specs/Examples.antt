@@ -1,12 +1,12 @@
 -- Runs and figures that are worked out.
 use Rattle.std.specs.Prelude.{◌≡◌, ℕ, zero, suc, ◌+◌, max, true, false, List, [], ◌∷◌, map, reverse, pos}
 use Rattle.model.specs.declared.calls.Call.{Call}
-use Rattle.model.specs.declared.calls.Call.TheVariants.{Open, Close, Change, Pick, Arrive, Depart}
+use Rattle.model.specs.declared.calls.Call.TheVariants.{Open, Change, Arrive, Depart}
 use Rattle.model.specs.declared.calls.Refusal.TheVariants as refused
 use Rattle.model.specs.declared.calls.Answer.{Answer}
 use Rattle.model.specs.declared.calls.Answer.TheVariants.{Done, Left, Refused}
 use Rattle.rules.specs.Bases.{clock_base, frame_base, start_base, stamp_base}
-use Rattle.model.specs.Model.{Session, blank, Rule, Lawful, Setup, number, bad_interval, bad_length, finish, due, changed, replay}
+use Rattle.model.specs.Model.{Session, Rule, Lawful, number, bad_interval, bad_length, finish, due, changed, replay}
 use Rattle.model.specs.Bursts.{burst, brought}
 
 -- Four rules, of which a pick chooses one.

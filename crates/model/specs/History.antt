@@ -2,7 +2,7 @@
 use Rattle.std.specs.Prelude.{◌≡◌, ℕ, ◌+◌, max, true, false, cond, List, [], ◌∷◌, ◌++◌, map, ◌==◌}
 use Rattle.model.specs.declared.calls.Packet.{Packet}
 use Rattle.model.specs.declared.calls.Call.{Call}
-use Rattle.model.specs.Model.{advance, Setup, Wire, State, Rule, Lawful, at, waits, first, due, replay}
+use Rattle.model.specs.Model.{advance, Setup, Wire, State, Rule, Lawful, at, waits, first, replay}
 use Rattle.model.specs.Model.Wire.{idle, sending}
 use Rattle.model.specs.Promises.{Past, past, Proper}
 use Rattle.model.specs.declared.calls.Parcel.{Parcel}

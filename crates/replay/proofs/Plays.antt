@@ -1,7 +1,6 @@
 -- A list of turns, one by one.
 use Rattle.std.proofs.Common.{◌≡◌, ℕ, zero, suc, ◌+◌, ◌<◌, ◌≤◌, List, [], ◌∷◌, ◌++◌, map, reverse, length, get_or, take, drop, set, sym, refl, ap, ◌∙◌, add-one, arith, drop_of_length-le, take_all, drop-cons, drop-set-lt}
 use Rattle.std.proofs.lemmas.List.{reverse-append}
-use Rattle.model.specs.declared.calls.Call.{Call}
 use Rattle.model.specs.declared.calls.Answer.{Answer}
 use Rattle.model.specs.Model.{Event, Rule, Run, State, calls_on, next, outcome, refusal, rule_after}
 use Rattle.replay.specs.declared.turn.Turn.{Turn}

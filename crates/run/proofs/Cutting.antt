@@ -1,5 +1,5 @@
 -- The line that a run has cut from its text.
-use Rattle.std.proofs.Common.{◌≡◌, ℕ, ◌+◌, ◌-◌, ◌≤◌, List, length, take, drop, ap, ◌∙◌}
+use Rattle.std.proofs.Common.{◌≡◌, ℕ, ◌+◌, ◌-◌, List, length, take, drop, ap, ◌∙◌}
 use Rattle.std.proofs.lemmas.List.{drop-take, take_rest}
 use Rattle.grammar.specs.Lines.{line_length}
 

@@ -1,15 +1,14 @@
 -- A study as the program holds it follows what its text has spelled.
-use Rattle.std.proofs.Common.{◌≡◌, ℕ, suc, ◌-◌, Bool, true, false, cond, ltb, List, [], ◌∷◌, ◌++◌, length, Some, None, Option, sym, refl, ap, ◌∙◌, subst}
+use Rattle.std.proofs.Common.{◌≡◌, ℕ, suc, ◌-◌, Bool, true, false, cond, ltb, List, [], ◌∷◌, ◌++◌, length, Some, None, Option, sym, refl, ap, ◌∙◌}
 use Rattle.grammar.specs.Lines.{lines}
 use Rattle.grammar.specs.Reader.{Answer as Reading, good, wrong, read}
-use Rattle.model.specs.declared.calls.Call.{Call}
 use Rattle.model.specs.declared.calls.Refusal.{Refusal}
-use Rattle.model.specs.Model.{Lawful, Rule, Run, State, make_refusal, new, refusal, replay, rule_after, step}
+use Rattle.model.specs.Model.{Lawful, Rule, Run, make_refusal, new, refusal, replay, rule_after, step}
 use Rattle.model.specs.Promises.{Proper}
 use Rattle.model.proofs.Bursts.{promised}
 use Rattle.model.proofs.Runs.{calls_push, made_proper}
 use Rattle.run.specs.Orders.{Order, make, call, order_of}
-use Rattle.run.specs.Machine.{Reply, said, line_after, line_text, lines_after, page_fault, reply_text, run_lines, run_text, text_after, text_fault}
+use Rattle.run.specs.Machine.{said, line_after, line_text, lines_after, page_fault, reply_text, run_lines, run_text, text_fault}
 use Rattle.run.specs.Stages.{Stage, unlinked, linked, apart, link_after, stage_after, stage_reply}
 use Rattle.run.specs.Spelled.{Spelled, no_line, on_line, Kept, link_spells, page_of, setup_of, spelled_after, spelled_in, spelled_reply}
 

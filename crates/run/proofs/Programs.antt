@@ -1,7 +1,7 @@
 -- The program's rule is lawful, whatever was picked.
-use Rattle.std.proofs.Common.{◌≡◌, ℕ, ◌+◌, ◌<◌, ◌≤◌, Bool, true, false, cond, List, arith}
+use Rattle.std.proofs.Common.{ℕ, ◌+◌, ◌<◌, ◌≤◌, Bool, true, false, cond, List, arith}
 use Rattle.rules.specs.Bases.{clock_base, frame, frame_base, stamp_base, start_base}
-use Rattle.rules.specs.Program.{Program, program_meaning, program_start}
+use Rattle.rules.specs.Program.{program_start}
 use Rattle.model.specs.Model.{Lawful}
 use Rattle.run.specs.Program.{ProgramKept, the_rule}
 use Rattle.run.proofs.Follows.{spelled_kept}

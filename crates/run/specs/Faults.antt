@@ -3,7 +3,6 @@ use Rattle.std.specs.Prelude.{ℕ, ◌<◌, ◌≤◌, List, length, Ok, Err, co
 use Rattle.answers.specs.Lines.{answer_text, fault_text}
 use Rattle.grammar.specs.Faults.{fault_number, fault_word}
 use Rattle.model.specs.declared.calls.Answer.{Answer}
-use Rattle.runfile.specs.declared.place.Place.{Place}
 use Rattle.runfile.specs.Met.{met}
 use Rattle.run.specs.declared.faults.RunFault.{RunFault}
 use Rattle.run.specs.declared.faults.RunFault.TheVariants.{Form, Order, Page, Text}

@@ -1,5 +1,5 @@
 -- What a study of the code stands for.
-use Rattle.std.specs.Prelude.{◌≡◌, ℕ, Some, None, Option}
+use Rattle.std.specs.Prelude.{Some, None, Option}
 use Rattle.ready.specs.Least.{Keys}
 use Rattle.model.specs.declared.calls.Answer.{Answer}
 use Rattle.line.specs.declared.lined.Line.{Line}

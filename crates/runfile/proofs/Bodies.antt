@@ -1,6 +1,5 @@
 -- What slots hold at the end of a form. Assumes nothing.
 use Rattle.std.proofs.Common.{◌≡◌, ℕ, zero, suc, ◌<◌, List, [], ◌∷◌, length, get_or, drop, Some, None, Ok, Err, Option, Result, sym, refl, ap, ◌∙◌, arith}
-use Rattle.std.specs.List.{AllByRecursion as All}
 use Rattle.grammar.specs.Faults.{Fault, no_field}
 use Rattle.grammar.specs.Forms.{Row, Form}
 use Rattle.grammar.specs.Reader.{Read, go, stop, then, taken, body}

@@ -1,12 +1,12 @@
 -- A form that is read ends with the text. Assumes nothing.
-use Rattle.std.proofs.Common.{◌≡◌, ℕ, ◌+◌, ◌-◌, ◌≤◌, eqb, leb, List, [], ◌∷◌, length, drop, Some, None, Option, sym, refl, ap, ◌∙◌, subst, arith}
+use Rattle.std.proofs.Common.{◌≡◌, ℕ, ◌+◌, ◌-◌, eqb, leb, List, [], ◌∷◌, length, drop, Some, None, Option, sym, refl, ap, ◌∙◌, subst, arith}
 use Rattle.std.proofs.lemmas.List.{length-drop}
 use Rattle.std.proofs.lemmas.Bool.{cond_both}
 use Rattle.grammar.specs.Bytes.{inside, run_length}
 use Rattle.grammar.specs.Faults.{no_word}
-use Rattle.grammar.specs.Forms.{Row, Form, table}
+use Rattle.grammar.specs.Forms.{Form, table}
 use Rattle.grammar.specs.Tokens.{Token}
-use Rattle.grammar.specs.Reader.{Read, go, stop, then, decide, token, taken, expect, as_opening, as_word, as_end, row_in, body, form}
+use Rattle.grammar.specs.Reader.{Read, go, stop, decide, token, taken, expect, as_opening, as_word, as_end, row_in, body, form}
 use Rattle.grammar.proofs.Scans.{Told, then_told}
 use Rattle.runfile.specs.declared.place.Place.{Place}
 use Rattle.runfile.specs.Places.{ahead, Along}

@@ -1,5 +1,5 @@
 -- A name that is found has a free slot exactly if it has not come yet. Assumes nothing.
-use Rattle.std.proofs.Common.{◌≡◌, ℕ, zero, suc, ◌<◌, Bool, true, false, cond, ◌⊎◌, List, [], ◌∷◌, length, get_or, set, Some, None, Option, sym, refl, ap, ◌∙◌, subst, inl, inr, ⊎_elim, arith}
+use Rattle.std.proofs.Common.{◌≡◌, ℕ, zero, suc, ◌<◌, true, false, cond, List, [], ◌∷◌, length, get_or, set, Some, None, Option, sym, refl, ap, ◌∙◌, subst, inl, inr, ⊎_elim, arith}
 use Rattle.std.specs.Str.{bytes_eq}
 use Rattle.std.proofs.lemmas.Slice.Eq.{bytes_eq-Decides}
 use Rattle.std.proofs.lemmas.Bool.{cond-true, cond-false, cases_Bool}
@@ -7,7 +7,7 @@ use Rattle.grammar.specs.Forms.{table, Stands}
 use Rattle.grammar.specs.Tokens.{opening}
 use Rattle.grammar.specs.Reader.{Read, go, then, token, place_in, further}
 use Rattle.grammar.specs.Slots.{free_place, frees, slot_field, slot_turn, slot_fields}
-use Rattle.grammar.proofs.Places.{Lacks, Distinct, Sure, sure_of, none_some, table_distinct}
+use Rattle.grammar.proofs.Places.{Lacks, Distinct, sure_of, none_some, table_distinct}
 use Rattle.grammar.proofs.Slots.{place_below}
 use Rattle.runfile.specs.declared.words.Kind.{Kind}
 use Rattle.runfile.specs.declared.words.Kind.TheVariants.{Link, Open, Close, Change, Pick, Arrive, Depart}

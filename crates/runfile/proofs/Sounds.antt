@@ -1,7 +1,7 @@
 -- A number that is scanned has 1 to 13 digits and nothing else. Assumes nothing.
-use Rattle.std.proofs.Common.{◌≡◌, ℕ, List, Some, None, Option, sym, subst}
+use Rattle.std.proofs.Common.{◌≡◌, ℕ, List, Some, Option, sym, subst}
 use Rattle.grammar.specs.Tokens.{Token, number, Sound}
-use Rattle.grammar.specs.Reader.{Read, go, stop, token}
+use Rattle.grammar.specs.Reader.{go, token}
 use Rattle.grammar.proofs.Scans.{Told, Begins, token_told}
 
 -- What is told of a number's bytes.

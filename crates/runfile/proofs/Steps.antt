@@ -1,5 +1,5 @@
 -- The scanner's steps, byte by byte. Assumes nothing.
-use Rattle.std.proofs.Common.{◌≡◌, ℕ, zero, suc, ◌+◌, ◌-◌, ◌<◌, ◌≤◌, eqb, List, [], ◌∷◌, length, get_or, take, drop, Some, None, Ok, Err, IsUtf8, IsAscii, Result, sym, refl, ap, ◌∙◌, subst, ⊎_elim, arith}
+use Rattle.std.proofs.Common.{◌≡◌, ℕ, zero, suc, ◌+◌, ◌-◌, ◌<◌, ◌≤◌, eqb, List, [], ◌∷◌, length, get_or, take, drop, Some, Ok, Err, IsUtf8, IsAscii, Result, sym, refl, ap, ◌∙◌, subst, ⊎_elim, arith}
 use Rattle.std.specs.List.{between, AllByRecursion as All}
 use Rattle.std.proofs.lemmas.List.{length-drop}
 use Rattle.std.proofs.lemmas.Slice.{first_rest, between_to_end}
@@ -7,7 +7,7 @@ use Rattle.std.proofs.lemmas.Bool.{cond-true, cond-false, cases_Bool, and_from, 
 use Rattle.std.proofs.lemmas.Str.{IsUtf8-from_ascii}
 use Rattle.grammar.specs.Bytes.{Within, run_length}
 use Rattle.grammar.specs.Tokens.{opening, closing}
-use Rattle.grammar.specs.Reader.{decide, token, go}
+use Rattle.grammar.specs.Reader.{token, go}
 use Rattle.grammar.proofs.Scans.{inside_true, inside_false, run_in}
 use Rattle.runfile.specs.declared.place.Place.{Place}
 use Rattle.runfile.specs.declared.faults.ScanFault.{ScanFault}

@@ -1,5 +1,5 @@
 -- What the answer of a reader of a part of a line stands for.
-use Rattle.std.specs.Prelude.{◌≡◌, ℕ, ◌+◌, ◌^◌, ◌<◌, ◌≤◌, List, length, drop, Ok, Err, Option, Result}
+use Rattle.std.specs.Prelude.{ℕ, ◌+◌, ◌^◌, ◌<◌, ◌≤◌, List, drop, Ok, Err, Option, Result}
 use Rattle.grammar.specs.Tokens.{Token as Tok}
 use Rattle.grammar.specs.Reader.{Read, go, stop}
 use Rattle.runfile.specs.declared.place.Place.{Place}

@@ -1,4 +1,3 @@
-use Rattle.std.proofs.Common.{◌≡◌}
 use Rattle.answers.specs.Lines.{fault_text}
 use Rattle.answers.proofs.lines.put_fault.Goals as goal
 

@@ -1,4 +1,4 @@
-use Rattle.std.proofs.Common.{◌≡◌, ◌+◌, ◌≤◌, length, ap, ◌∙◌, arith}
+use Rattle.std.proofs.Common.{◌≡◌, ◌+◌, length, ap, ◌∙◌, arith}
 use Rattle.page.specs.Page.{written}
 use Rattle.answers.specs.Lines.{refused_line, refused_text}
 use Rattle.answers.proofs.Lengths.{refused_short, word_short}

@@ -1,4 +1,4 @@
-use Rattle.std.proofs.Common.{◌≡◌, ◌<◌, ◌≤◌, length, refl, ◌∙◌, arith, length-set}
+use Rattle.std.proofs.Common.{◌<◌, ◌≤◌, length, refl, ◌∙◌, arith, length-set}
 use Rattle.line.specs.Calls.{as_rule}
 use Rattle.line.specs.Views.{state}
 use Rattle.replay.proofs.Plays.{all_told, one_more}

@@ -1,9 +1,8 @@
-use Rattle.std.proofs.Common.{◌≡◌, [], ap, ◌∙◌, rules}
-use Rattle.model.specs.Model.{Run, State, calls_on, made}
+use Rattle.std.proofs.Common.{[], ap, ◌∙◌}
+use Rattle.model.specs.Model.{Run, calls_on, made}
 use Rattle.model.proofs.Bursts.{promised}
 use Rattle.model.proofs.Runs.{made_proper}
 use Rattle.line.specs.Calls.{as_rule}
-use Rattle.line.specs.Views.{state}
 use Rattle.replay.specs.Turns.{calls_of, run_of, setup_of}
 use Rattle.replay.proofs.replays.replay.Goals as goal
 

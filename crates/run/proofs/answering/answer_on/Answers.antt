@@ -1,4 +1,4 @@
-use Rattle.std.proofs.Common.{◌≡◌, ℕ, ◌+◌, length, ap, ◌∙◌, arith}
+use Rattle.std.proofs.Common.{ℕ, ◌+◌, length, ap, ◌∙◌}
 use Rattle.grammar.specs.Reader.{read}
 use Rattle.line.specs.Calls.{as_rule}
 use Rattle.page.specs.Page.{written}

@@ -1,7 +1,7 @@
-use Rattle.std.proofs.Common.{◌≡◌, ◌+◌, ◌≤◌, length, sym, ap, ◌∙◌, subst, arith}
+use Rattle.std.proofs.Common.{◌+◌, length, sym, ap, ◌∙◌, subst, arith}
 use Rattle.page.specs.Page.{written}
 use Rattle.answers.proofs.Lengths.{fault_short}
-use Rattle.run.specs.Faults.{Short, outcome_text, told, told_text}
+use Rattle.run.specs.Faults.{Short, outcome_text, told}
 use Rattle.run.proofs.answering.put_outcome.Goals as goal
 
 pub put_run_fault-requires : goal.put_run_fault-requires

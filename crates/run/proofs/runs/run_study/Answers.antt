@@ -1,10 +1,8 @@
-use Rattle.std.proofs.Common.{◌≡◌, ℕ, ◌+◌, ◌-◌, ◌<◌, ◌≤◌, length, drop, codes, sym, ap, ◌∙◌, subst, arith, rules}
-use Rattle.grammar.specs.Lines.{lines}
+use Rattle.std.proofs.Common.{◌≡◌, ◌+◌, ◌≤◌, length, codes, sym, ap, ◌∙◌, subst, arith}
 use Rattle.line.specs.Calls.{as_rule}
 use Rattle.page.specs.Page.{written}
 use Rattle.answers.specs.Lines.{fault_text}
 use Rattle.answers.proofs.Lengths.{fault_short, page_fault_short}
-use Rattle.run.specs.Machine.{run_lines}
 use Rattle.run.specs.Stages.{stage_after, stage_reply}
 use Rattle.run.specs.Studies.{stage_of}
 use Rattle.run.proofs.Turns.{all_written, fault_written, one_line, read_whole}

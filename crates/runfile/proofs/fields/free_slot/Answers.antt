@@ -1,7 +1,7 @@
 -- What `search` leaves of free_slot.
-use Rattle.std.proofs.Common.{◌≡◌, sym, ◌∙◌, subst, rules}
+use Rattle.std.proofs.Common.{sym, ◌∙◌, subst}
 use Rattle.runfile.specs.Filling.{FreeIf}
-use Rattle.runfile.proofs.Fills.{kind_within, kind_free, kind_told}
+use Rattle.runfile.proofs.Fills.{kind_free, kind_told}
 use Rattle.runfile.proofs.fields.free_slot.Goals as goal
 
 pub returns-in-Some : goal.returns-in-Some

@@ -1,5 +1,5 @@
 -- What `search` leaves of begin.
-use Rattle.std.proofs.Common.{◌≡◌, length, Some, sym, ap, ◌∙◌, rules}
+use Rattle.std.proofs.Common.{length, Some, sym, ap, ◌∙◌, rules}
 use Rattle.std.specs.List.{between}
 use Rattle.grammar.specs.Reader.{go}
 use Rattle.grammar.specs.Tokens.{opening, closing}

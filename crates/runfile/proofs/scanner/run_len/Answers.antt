@@ -1,5 +1,5 @@
 -- What `search` leaves of run_len.
-use Rattle.std.proofs.Common.{◌<◌, length, arith, rules, ltb-false, ltb-true}
+use Rattle.std.proofs.Common.{◌<◌, length, arith, rules, ltb-true}
 use Rattle.runfile.proofs.Steps.{run_more, run_none}
 use Rattle.runfile.proofs.scanner.run_len.Goals as goal
 

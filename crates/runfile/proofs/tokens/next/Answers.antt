@@ -1,5 +1,5 @@
 -- What `search` leaves of next.
-use Rattle.std.proofs.Common.{Ok, Err, rules}
+use Rattle.std.proofs.Common.{Ok, Err}
 use Rattle.std.proofs.lemmas.Result.{err_from_is_err_and}
 use Rattle.runfile.specs.Reads.{found_of}
 use Rattle.runfile.proofs.Moves.{moved, met_fault}

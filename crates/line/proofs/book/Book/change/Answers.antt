@@ -1,7 +1,7 @@
-use Rattle.std.proofs.Common.{◌≡◌, ◌<◌, List, length, get_or, set, box_value, sym, ap, ◌∙◌, arith, rules}
+use Rattle.std.proofs.Common.{◌<◌, List, length, get_or, set, box_value, ap, ◌∙◌, arith, rules}
 use Rattle.std.proofs.lemmas.List.{length-map}
 use Rattle.model.specs.declared.calls.Call.TheVariants.{Change}
-use Rattle.model.specs.Model.{Session, State, answered, bad_interval, blank, changed}
+use Rattle.model.specs.Model.{Session, State, answered, blank, changed}
 use Rattle.line.specs.Needed.{WithinFrame}
 use Rattle.line.specs.Records.{session_of, sessions_of, wire_of}
 use Rattle.line.specs.Views.{state}

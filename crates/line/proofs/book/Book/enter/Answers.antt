@@ -1,7 +1,6 @@
-use Rattle.std.proofs.Common.{◌≡◌, ◌<◌, ◌≤◌, List, length, get_or, box_value, deque_capacity, sym, ap, ◌∙◌, subst, arith, rules}
+use Rattle.std.proofs.Common.{◌<◌, ◌≤◌, List, length, get_or, box_value, deque_capacity, sym, ap, subst, arith}
 use Rattle.model.specs.Model.{Session, State, joined}
-use Rattle.line.specs.Records.{session_of, wire_of}
-use Rattle.line.specs.Views.{state}
+use Rattle.line.specs.Records.{wire_of}
 use Rattle.line.proofs.Changes.{one_changed}
 use Rattle.line.proofs.Totals.{at_of}
 use Rattle.line.proofs.book.Book.enter.Goals as goal

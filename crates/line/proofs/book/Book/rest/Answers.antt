@@ -1,4 +1,4 @@
-use Rattle.std.proofs.Common.{◌≡◌, ◌<◌, ◌≤◌, List, ◌++◌, map, length, take, drop, box_value, deque_capacity, sym, refl, ap, ◌∙◌, subst, append-nil, arith, length-set, drop_of_length-le, take_all, rules}
+use Rattle.std.proofs.Common.{◌<◌, ◌≤◌, List, ◌++◌, map, length, drop, deque_capacity, sym, refl, ap, ◌∙◌, subst, append-nil, arith, length-set, drop_of_length-le, take_all}
 use lib.ListN.{length-map}
 use Rattle.model.specs.Model.{Session, State, rested}
 use Rattle.model.specs.Model.Wire.{idle}

@@ -1,9 +1,9 @@
-use Rattle.std.proofs.Common.{◌≡◌, ℕ, ◌<◌, List, length, get_or, set, box_value, refl, ap, ◌∙◌, arith, rules}
+use Rattle.std.proofs.Common.{◌≡◌, ℕ, ◌<◌, List, length, get_or, set, box_value, refl, ap, ◌∙◌, arith}
 use Rattle.model.specs.Model.{Session, State, sent, first, due, at}
 use Rattle.model.specs.Model.Wire.{sending}
 use Rattle.model.specs.declared.calls.Packet.{Packet}
 use Rattle.line.specs.Needed.{Low}
-use Rattle.line.specs.Records.{session_of, wire_of}
+use Rattle.line.specs.Records.{session_of}
 use Rattle.line.specs.Views.{state}
 use Rattle.line.proofs.Changes.{one_changed}
 use Rattle.line.proofs.Totals.{at_of}

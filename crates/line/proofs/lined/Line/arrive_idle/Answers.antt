@@ -1,7 +1,7 @@
-use Rattle.std.proofs.Common.{◌≡◌, ℕ, ◌<◌, length, None, sym, refl, ap, ◌∙◌, subst, arith}
+use Rattle.std.proofs.Common.{ℕ, ◌<◌, length, sym, refl, ap, ◌∙◌, subst, arith}
 use Rattle.model.specs.declared.calls.Call.TheVariants.{Arrive}
 use Rattle.model.specs.declared.calls.Packet.{Packet}
-use Rattle.model.specs.Model.{Session, answered, arrived, finish, finish_keys, later, refusal, start_keys, step}
+use Rattle.model.specs.Model.{Session, answered, arrived, finish, finish_keys, later, start_keys}
 use Rattle.line.specs.Sound.{Sound}
 use Rattle.line.specs.Views.{state}
 use Rattle.line.proofs.Heads.{arrive_within, begun_keys, quiet}

@@ -1,15 +1,12 @@
-use Rattle.std.proofs.Common.{◌≡◌, ℕ, ◌<◌, true, length, set, None, sym, refl, ap, ◌∙◌, subst, arith}
+use Rattle.std.proofs.Common.{◌≡◌, ◌<◌, true, length, sym, refl, ap, ◌∙◌, subst, arith}
 use lib.Seq.{map-set_same}
 use Rattle.model.specs.declared.calls.Call.TheVariants.{Arrive}
 use Rattle.model.specs.declared.calls.Packet.{Packet}
-use Rattle.model.specs.Model.{State, answered, at, blank, finish_key, finish_keys, joined, later, potential, queued, refusal, start_key, start_keys, step, waits}
-use Rattle.model.specs.Invariants.{Steady}
-use Rattle.model.proofs.Ranges.{goes_on}
+use Rattle.model.specs.Model.{answered, at, blank, finish_key, finish_keys, joined, later, potential, start_key, start_keys, waits}
 use Rattle.line.specs.Sound.{Sound}
 use Rattle.line.specs.Views.{state}
 use Rattle.line.proofs.Heads.{arrive_within, behind_finish, behind_start, sends_queue}
 use Rattle.line.proofs.Queues.{rekeyed_sound, still_sound}
-use Rattle.line.proofs.Steadies.{low_at}
 use Rattle.line.proofs.lined.Line.arrive_sending.Goals as goal
 
 pub returns-then-behind : goal.returns-then-behind

@@ -1,10 +1,9 @@
 use Rattle.std.proofs.Common.{◌≡◌, ◌<◌, length, None, box_value, sym, refl, ap, ◌∙◌, subst, arith}
 use Rattle.std.proofs.lemmas.List.{length-map}
 use Rattle.model.specs.declared.calls.Call.TheVariants.{Change}
-use Rattle.model.specs.Model.{State, answered, at, changed, potential, refusal}
+use Rattle.model.specs.Model.{answered, at, changed, potential, refusal}
 use Rattle.model.specs.Invariants.{Steady}
 use Rattle.model.proofs.Ranges.{goes_on}
-use Rattle.line.specs.Needed.{Low}
 use Rattle.line.specs.Records.{session_of}
 use Rattle.line.specs.Sound.{Sound}
 use Rattle.line.specs.Views.{state}

@@ -1,6 +1,6 @@
 use Rattle.std.proofs.Common.{ℕ, sym, refl, subst}
 use Rattle.model.specs.declared.calls.Call.TheVariants.{Close}
-use Rattle.model.specs.Model.{State, Session, finish}
+use Rattle.model.specs.Model.{Session, finish}
 use Rattle.line.specs.Sound.{Sound}
 use Rattle.line.specs.Views.{state}
 use Rattle.line.proofs.Queues.{close_keys, still_sound}

@@ -1,8 +1,7 @@
-use Rattle.std.proofs.Common.{◌≡◌, ℕ, ◌+◌, ◌<◌, max, length, box_value, sym, refl, ap, ◌∙◌, subst, arith, rules}
+use Rattle.std.proofs.Common.{◌≡◌, ◌+◌, max, box_value, sym, refl, ap, ◌∙◌, subst, arith}
 use Rattle.std.proofs.lemmas.List.{length-map}
-use Rattle.model.specs.Model.{State, at, at_rest, departed, end, later, sends, wire_ticks}
+use Rattle.model.specs.Model.{at_rest, departed, end, later, sends, wire_ticks}
 use Rattle.model.specs.Invariants.{Steady}
-use Rattle.line.specs.Needed.{Low}
 use Rattle.line.specs.Records.{sending_of, session_of}
 use Rattle.line.specs.Sound.{Sound}
 use Rattle.line.specs.Views.{state}

@@ -1,7 +1,7 @@
-use Rattle.std.proofs.Common.{◌≡◌, ℕ, true, cond, ltb, None, sym, refl, ap, ◌∙◌, subst}
+use Rattle.std.proofs.Common.{◌≡◌, cond, None, sym, ap, ◌∙◌, subst}
 use Rattle.model.specs.declared.calls.Call.TheVariants.{Pick}
 use Rattle.model.specs.Model.{answered, finish_keys, refusal, rule_after, start_keys}
-use Rattle.line.specs.Calls.{as_rule, line_after}
+use Rattle.line.specs.Calls.{as_rule}
 use Rattle.line.specs.Sound.{Sound}
 use Rattle.line.specs.Views.{state}
 use Rattle.line.proofs.Queues.{pick_below, pick_sessions, still_sound}

@@ -1,4 +1,4 @@
-use Rattle.std.proofs.Common.{◌≡◌, ◌<◌, ◌≤◌, length, deque_capacity, ◌∙◌, arith, length-set, rules}
+use Rattle.std.proofs.Common.{◌<◌, ◌≤◌, length, deque_capacity, ◌∙◌, arith, length-set, rules}
 use lib.Seq.{map-set_same}
 use Rattle.line.specs.Records.{session_of}
 use Rattle.line.proofs.Sweep.{room_more}

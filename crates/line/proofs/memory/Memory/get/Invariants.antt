@@ -1,4 +1,4 @@
-use Rattle.std.proofs.Common.{◌≡◌, ◌<◌, ◌≤◌, length, replicate}
+use Rattle.std.proofs.Common.{◌≡◌, length, replicate}
 use Rattle.model.specs.Model.{blank}
 use Rattle.line.specs.Records.{sessions_of}
 use Rattle.line.specs.Room.{HasRoom}

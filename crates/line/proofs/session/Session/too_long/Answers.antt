@@ -1,7 +1,6 @@
-use Rattle.std.proofs.Common.{◌≡◌, true, false, List, deque_items, sym, ap, ◌∙◌, subst, rules, lt-ltb}
+use Rattle.std.proofs.Common.{◌≡◌, true, false, deque_items, sym, ap, ◌∙◌, subst, rules}
 use Rattle.std.specs.VecDeque.Iter.{deque_iter_rest}
 use Rattle.std.specs.List.{AllByRecursion as All}
-use Rattle.model.specs.declared.calls.Packet.{Packet}
 use Rattle.model.specs.Model.{any}
 use Rattle.line.proofs.Lengths.{Short, long, advance_small, short_first, found, none_left, passed}
 use Rattle.line.proofs.session.Session.too_long.Goals as goal
