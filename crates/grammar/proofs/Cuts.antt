@@ -1,6 +1,6 @@
 -- A text and its lines. Assumes nothing.
 use Rattle.std.proofs.Common.{◌≡◌, ℕ, suc, ◌<◌, ◌≤◌, Bool, true, false, cond, eqb, ◌⊎◌, List, [], ◌∷◌, ◌++◌, length, take, drop, sym, refl, ap, ◌∙◌, inl, inr, ⊎_elim, arith}
-use Rattle.std.specs.List.{AllByRecursion as All}
+use Rattle.std.specs.List.{AllByRecursion}
 use Rattle.std.proofs.lemmas.List.{append_assoc}
 use Rattle.std.proofs.lemmas.Bool.{cond_both, cond-false, eqb-true, eqb-false, ne_eqb}
 use Rattle.grammar.specs.Claims.{FewLines}
@@ -19,15 +19,15 @@ lined (b ∷ bs) =
     (λ e. (tt, inl (bs, ap (λ x. x ∷ bs) (eqb-true b 10 e), lined bs)))
     (λ e. onto_lined b bs (lines bs) (eqb-false b 10 e) (lined bs))
 
-front : (l rest : List ℕ) → All (λ b. b ≡ 10 → ⊥) l → lines (l ++ (10 ∷ rest)) ≡ l ∷ lines rest
+front : (l rest : List ℕ) → AllByRecursion (λ b. b ≡ 10 → ⊥) l → lines (l ++ (10 ∷ rest)) ≡ l ∷ lines rest
 front [] rest a = refl
 front (b ∷ l) rest a = cond-false _ _ _ (ne_eqb b 10 a.0) ∙ ap (onto b) (front l rest a.1)
 
-alone : (b : ℕ) (l : List ℕ) → All (λ x. x ≡ 10 → ⊥) (b ∷ l) → lines (b ∷ l) ≡ (b ∷ l) ∷ []
+alone : (b : ℕ) (l : List ℕ) → AllByRecursion (λ x. x ≡ 10 → ⊥) (b ∷ l) → lines (b ∷ l) ≡ (b ∷ l) ∷ []
 alone b [] a = cond-false _ _ _ (ne_eqb b 10 a.0)
 alone b (x ∷ l) a = cond-false _ _ _ (ne_eqb b 10 a.0) ∙ ap (onto b) (alone x l a.1)
 
-last : (l : List ℕ) → All (λ x. x ≡ 10 → ⊥) l → 0 < length l → lines l ≡ l ∷ []
+last : (l : List ℕ) → AllByRecursion (λ x. x ≡ 10 → ⊥) l → 0 < length l → lines l ≡ l ∷ []
 last [] a some = absurd (omega arith)
 last (b ∷ l) a some = alone b l a
 

@@ -1,6 +1,6 @@
 -- What the scanner makes of a line's bytes. Assumes nothing.
 use Rattle.std.proofs.Common.{◌≡◌, ℕ, zero, suc, ◌+◌, ◌<◌, ◌≤◌, true, false, eqb, leb, List, [], ◌∷◌, ◌++◌, length, take, drop, Some, None, Option, sym, refl, ap, ◌∙◌, ⊎_elim, true≢false, arith}
-use Rattle.std.specs.List.{AllByRecursion as All}
+use Rattle.std.specs.List.{AllByRecursion}
 use Rattle.std.proofs.lemmas.List.{length-take-le, take-append-drop, take_at, drop_at}
 use Rattle.std.proofs.lemmas.Bool.{cond_both, cond-true, cond-false, cases_Bool, and_parts, and_from, leb-true, le-leb, eqb-true, ne_eqb, and_left, lt-leb}
 use Rattle.grammar.specs.Bytes.{Within, inside, run_length, Ends, blanks}
@@ -24,17 +24,17 @@ run_within lo hi (b ∷ bs) =
     let rest = run_within lo hi bs in
     cond_both (inside lo hi b) (suc (run_length lo hi bs)) 0 (λ n. n ≤ suc (length bs)) (λ _. omega arith) (λ _. omega arith)
 
-pub run_in : (lo hi : ℕ) (xs : List ℕ) → All (Within lo hi) (take (run_length lo hi xs) xs)
+pub run_in : (lo hi : ℕ) (xs : List ℕ) → AllByRecursion (Within lo hi) (take (run_length lo hi xs) xs)
 run_in lo hi [] = tt
 run_in lo hi (b ∷ bs) =
-    cond_both (inside lo hi b) (suc (run_length lo hi bs)) 0 (λ n. All (Within lo hi) (take n (b ∷ bs))) (λ t. (true_inside lo hi b t, run_in lo hi bs)) (λ _. tt)
+    cond_both (inside lo hi b) (suc (run_length lo hi bs)) 0 (λ n. AllByRecursion (Within lo hi) (take n (b ∷ bs))) (λ t. (true_inside lo hi b t, run_in lo hi bs)) (λ _. tt)
 
 pub run_ends : (lo hi : ℕ) (xs : List ℕ) → Ends lo hi (drop (run_length lo hi xs) xs)
 run_ends lo hi [] = tt
 run_ends lo hi (b ∷ bs) =
     cond_both (inside lo hi b) (suc (run_length lo hi bs)) 0 (λ n. Ends lo hi (drop n (b ∷ bs))) (λ _. run_ends lo hi bs) (λ f w. true≢false (sym (inside_true lo hi b w) ∙ f))
 
-pub run_of : (lo hi : ℕ) (w rest : List ℕ) → All (Within lo hi) w → Ends lo hi rest → run_length lo hi (w ++ rest) ≡ length w
+pub run_of : (lo hi : ℕ) (w rest : List ℕ) → AllByRecursion (Within lo hi) w → Ends lo hi rest → run_length lo hi (w ++ rest) ≡ length w
 run_of lo hi [] [] a e = refl
 run_of lo hi [] (b ∷ bs) a e = cond-false _ _ _ (inside_false lo hi b e)
 run_of lo hi (b ∷ w) rest a e = cond-true _ _ _ (inside_true lo hi b a.0) ∙ ap suc (run_of lo hi w rest a.1 e)

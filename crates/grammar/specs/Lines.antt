@@ -1,6 +1,6 @@
 -- The lines of a text: each ends at byte 10, the last one at the text's end if bytes are left.
 use Rattle.std.specs.Prelude.{◌≡◌, ℕ, suc, ◌<◌, cond, ◌⊎◌, List, [], ◌∷◌, ◌++◌, length, take, drop, ◌==◌, ◌≢◌}
-use Rattle.std.specs.List.{AllByRecursion as All}
+use Rattle.std.specs.List.{AllByRecursion}
 
 -- A byte before the lines that follow.
 abbrev pub onto : ℕ → List (List ℕ) → List (List ℕ)
@@ -29,4 +29,4 @@ ended (l ∷ ls) = l ++ (10 ∷ ended ls)
 -- A text is made of lines: none holds byte 10, each is ended by it, or is the last, not empty and ended by nothing.
 abbrev pub Lined : List ℕ → List (List ℕ) → Type 0
 Lined text [] = text ≡ []
-Lined text (l ∷ ls) = All (λ b. b ≢ 10) l × (((rest : List ℕ) × (text ≡ l ++ (10 ∷ rest)) × Lined rest ls) ⊎ ((text ≡ l) × (0 < length l) × (ls ≡ [])))
+Lined text (l ∷ ls) = AllByRecursion (λ b. b ≢ 10) l × (((rest : List ℕ) × (text ≡ l ++ (10 ∷ rest)) × Lined rest ls) ⊎ ((text ≡ l) × (0 < length l) × (ls ≡ [])))

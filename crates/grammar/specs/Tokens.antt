@@ -1,6 +1,6 @@
 -- What the tokens of a line are.
 use Rattle.std.specs.Prelude.{◌≡◌, ℕ, ◌<◌, ◌≤◌, List, [], ◌∷◌, ◌++◌, length}
-use Rattle.std.specs.List.{AllByRecursion as All}
+use Rattle.std.specs.List.{AllByRecursion}
 use Rattle.grammar.specs.Bytes.{Within, Ends, blanks}
 
 -- Brackets, words by their letters, numbers by their digits.
@@ -21,8 +21,8 @@ bytes_of (number ds) = ds
 abbrev pub Sound : Token → Type 0
 Sound opening = Unit {0}
 Sound closing = Unit {0}
-Sound (word w) = (0 < length w) × All (Within 97 122) w
-Sound (number ds) = (0 < length ds) × (length ds ≤ 13) × All (Within 48 57) ds
+Sound (word w) = (0 < length w) × AllByRecursion (Within 97 122) w
+Sound (number ds) = (0 < length ds) × (length ds ≤ 13) × AllByRecursion (Within 48 57) ds
 
 -- No letter follows a word, no digit follows a number.
 abbrev pub Apart : Token → List ℕ → Type 0

@@ -1,6 +1,6 @@
 -- Packets that wait, looked through one by one for one that would be too long.
 use Rattle.std.proofs.Common.{◌≡◌, ℕ, ◌^◌, ◌<◌, ◌≤◌, Bool, true, false, ◌||◌, ltb, List, [], ◌∷◌, length, refl, ap, ◌∙◌, subst, mul-le-mul, arith}
-use Rattle.std.specs.List.{AllByRecursion as All}
+use Rattle.std.specs.List.{AllByRecursion}
 use Rattle.model.specs.declared.calls.Packet.{Packet}
 use Rattle.model.specs.Model.{advance, any, frame}
 
@@ -16,8 +16,8 @@ abbrev pub long : ℕ → Packet → Bool
 long interval p = ltb frame (advance p.bytes interval)
 
 module _ (left rest : List Packet) (p : Packet) (is : left ≡ p ∷ rest) where
-  pub short_first : All Short left → All Short (p ∷ rest)
-  short_first all = subst (All Short) is all
+  pub short_first : AllByRecursion Short left → AllByRecursion Short (p ∷ rest)
+  short_first all = subst (AllByRecursion Short) is all
 
   pub found : (interval : ℕ) → long interval p ≡ true → any (long interval) left ≡ true
   found interval too = ap (any (long interval)) is ∙ ap (λ b. b || any (long interval) rest) too

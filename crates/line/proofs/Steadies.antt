@@ -1,6 +1,6 @@
 -- What a line that can go on gives to the sums and differences of the code.
 use Rattle.std.proofs.Common.{◌≡◌, ℕ, zero, suc, ◌*◌, ◌%◌, ◌^◌, ◌<◌, ◌≤◌, true, false, cond, not, eqb, List, [], ◌∷◌, length, None, ap, subst, inl, inr, mod-eq_of_lt, suc-mul, zero-mul, arith}
-use Rattle.std.specs.List.{AllByRecursion as All}
+use Rattle.std.specs.List.{AllByRecursion}
 use Rattle.std.proofs.ByRecursion.{All-weaker}
 use Rattle.std.proofs.lemmas.Bool.{cases_lt, eqb-true, leb-false, not-false, or_parts}
 use Rattle.std.proofs.lemmas.List.Sums.{get_or-le-sum_by}
@@ -55,7 +55,7 @@ divisor_low n e =
     ]
 
 -- the packets that wait are no longer than a line allows
-pub all_short : (st : State) → Steady st → (i : ℕ) → i < length st.sessions → All Short (at st i).waiting
+pub all_short : (st : State) → Steady st → (i : ℕ) → i < length st.sessions → AllByRecursion Short (at st i).waiting
 all_short st s i lt = All-weaker (Fit st.longest st.time s.kept.0 (at st i).interval) Short (λ p fit. omega (arith, fit.short, s.proper.1)) (at st i).waiting (s.kept.2.base.good i lt).fit
 
 -- a session that takes a packet has memory for it
@@ -74,7 +74,7 @@ nothing_ahead : (interval : ℕ) → advance 0 interval ≤ frame
 unfolding advance
 nothing_ahead interval = omega (arith, zero-mul interval)
 
-head_low : (L t P interval : ℕ) (ps : List Packet) → All (Fit L t P interval) ps → advance (first ps).bytes interval ≤ frame
+head_low : (L t P interval : ℕ) (ps : List Packet) → AllByRecursion (Fit L t P interval) ps → advance (first ps).bytes interval ≤ frame
 head_low L t P interval [] all = nothing_ahead interval
 head_low L t P interval (p ∷ ps) all = all.0.fits
 

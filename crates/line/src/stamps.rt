@@ -1,7 +1,7 @@
 // The stamps of one session: what becomes of its head as packets come and go.
 ghost use Rattle.std.specs.Prelude.{◌≡◌, ◌^◌, ◌<◌, ◌≤◌, length, nat_lt};
 ghost use Rattle.std.specs.VecDeque.{deque_capacity};
-ghost use Rattle.std.specs.List.{AllByRecursion as All};
+ghost use Rattle.std.specs.List.{AllByRecursion};
 ghost use Rattle.model.specs.Model.{advance, any, changed, due, finish, finish_key, first, frame, full, headed, joined, rested, sent, start_key};
 ghost use Rattle.line.specs.Needed.{Low, WithinFrame};
 ghost use Rattle.line.specs.Records.{session_of};
@@ -131,7 +131,7 @@ impl Session {
 
     // One of its packets that wait would not fit a share of this interval.
     pub(crate) fn too_long(&self, interval: u64) -> bool
-        requires low { (All (λ p. p.bytes ≤ 9216) (session_of self.now).waiting) × (interval ≤ frame) }
+        requires low { (AllByRecursion (λ p. p.bytes ≤ 9216) (session_of self.now).waiting) × (interval ≤ frame) }
         ensures { result ≡ any (λ p. nat_lt frame (advance p.bytes interval)) (session_of self.now).waiting }
     {
         for packet in self.waiting.iter() {

@@ -1,10 +1,10 @@
 -- A number of at most 13 digits fits. Assumes nothing.
 use Rattle.std.proofs.Common.{◌≡◌, ℕ, zero, suc, ◌+◌, ◌*◌, ◌^◌, ◌<◌, ◌≤◌, List, [], ◌∷◌, length, get_or, ap, ◌∙◌, pow-suc, add-one, arith}
 use native.Mathlib.Nat.{pow-le-pow_right}
-use Rattle.std.specs.List.{AllByRecursion as All}
+use Rattle.std.specs.List.{AllByRecursion}
 use Rattle.grammar.specs.Bytes.{Within}
 
-pub digit_at : (ds : List ℕ) → All (Within 48 57) ds → (k : ℕ) → k < length ds → Within 48 57 (get_or ds k 0)
+pub digit_at : (ds : List ℕ) → AllByRecursion (Within 48 57) ds → (k : ℕ) → k < length ds → Within 48 57 (get_or ds k 0)
 digit_at [] a k h = absurd (omega arith)
 digit_at (d ∷ ds) a zero h = a.0
 digit_at (d ∷ ds) a (suc k) h = digit_at ds a.1 k (omega arith)

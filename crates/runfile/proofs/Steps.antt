@@ -1,6 +1,6 @@
 -- The scanner's steps, byte by byte. Assumes nothing.
 use Rattle.std.proofs.Common.{◌≡◌, ℕ, zero, suc, ◌+◌, ◌-◌, ◌<◌, ◌≤◌, eqb, List, [], ◌∷◌, length, get_or, take, drop, Some, Ok, Err, IsUtf8, IsAscii, Result, sym, refl, ap, ◌∙◌, subst, ⊎_elim, arith}
-use Rattle.std.specs.List.{between, AllByRecursion as All}
+use Rattle.std.specs.List.{between, AllByRecursion}
 use Rattle.std.proofs.lemmas.List.{length-drop}
 use Rattle.std.proofs.lemmas.Slice.{first_rest, between_to_end}
 use Rattle.std.proofs.lemmas.Bool.{cond-true, cond-false, cases_Bool, and_from, le-leb, eqb-true, eqb-false}
@@ -32,7 +32,7 @@ pub begun_close : (col : ℕ) (xs : List ℕ) → 0 < length xs → get_or xs 0 
 begun_close col xs some is = ap (begun col) (first_rest xs 0 some) ∙ ap (λ b. begun col (b ∷ between 1 (length xs) xs)) is
 
 -- A run of letters is text.
-letters_ascii : (bs : List ℕ) → All (Within 97 122) bs → IsAscii bs
+letters_ascii : (bs : List ℕ) → AllByRecursion (Within 97 122) bs → IsAscii bs
 letters_ascii [] a i = omega arith
 letters_ascii (b ∷ bs) a zero = omega (arith, a.0.1)
 letters_ascii (b ∷ bs) a (suc i) = letters_ascii bs a.1 i

@@ -1,5 +1,5 @@
 use Rattle.std.proofs.Common.{◌≡◌, ◌<◌, false, length, box_value, sym, subst, arith, rules}
-use Rattle.std.specs.List.{AllByRecursion as All}
+use Rattle.std.specs.List.{AllByRecursion}
 use Rattle.std.proofs.lemmas.List.{length-map}
 use Rattle.model.specs.Model.{bad_interval}
 use Rattle.line.specs.Records.{session_of}
@@ -15,4 +15,4 @@ too_long-requires c =
     let i = c.args.c.session in
     let here : i < length st.sessions = omega (arith, length-map (box_value b.sessions) session_of, b.full) in
     let lawful : bad_interval c.args.c.interval ≡ false = search rules in
-    record { low = (subst (λ s. All Short s.waiting) (sym c.at-s.ensures) (all_short st c.requires.steady i here), divisor_low c.args.c.interval lawful) }
+    record { low = (subst (λ s. AllByRecursion Short s.waiting) (sym c.at-s.ensures) (all_short st c.requires.steady i here), divisor_low c.args.c.interval lawful) }
