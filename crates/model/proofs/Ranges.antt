@@ -14,7 +14,7 @@ use Rattle.model.specs.Model.Wire.{idle, sending}
 use Rattle.model.specs.Model.Reachable.{unpicked}
 use Rattle.model.specs.Ranges.{last_time, Small, SmallWire, InRange, Ranges}
 use Rattle.model.proofs.Lists.{Every, every_map, every-push, sum_by_map, at_set, clear}
-use Rattle.model.specs.Invariants.{account, Good, Each, Base, Inv, Kept, Fit, Ranged, Parts, until, WireSmall, Bounds, Steady, Goes_on, Safe}
+use Rattle.model.specs.Invariants.{account, Good, Each, Base, Inv, Kept, Fit, Ranged, Parts, until, WireSmall, Bounds, Steady, GoesOn, Safe}
 use Rattle.model.proofs.Sessions.{head_fit, ticks_some, ticks_le, good_joined}
 use Rattle.model.proofs.Steps.{chosen, base_low, comes, fit_new, keeps, kept_made}
 use Rattle.model.proofs.Runs.{along, reach, longest_answered}
@@ -391,7 +391,7 @@ steady_step choices rule safe st c k =
       bounds = bounds_answered choices rule safe st k.proper.1 k.kept k.bounds c (refusal choices st c) refl;
     }
 
-pub goes_on : Goes_on
+pub goes_on : GoesOn
 goes_on =
     record {
       at_first = λ setup proper. record { proper = proper; kept = kept_made setup; bounds = limited_made setup };

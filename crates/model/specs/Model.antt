@@ -1,5 +1,5 @@
 -- A line by its rules, over numbers and lists: what each call does, or why it is refused.
-use Rattle.std.specs.Prelude.{ℕ, ◌+◌, ◌-◌, ◌*◌, ◌/◌, ◌%◌, ◌^◌, ◌<◌, ◌≤◌, max, Bool, true, false, cond, not, ◌||◌, ltb, List, [], ◌∷◌, ◌++◌, map, length, replicate, pos, ◌-ℤ◌, Some, None, codes, sum_by, count_by, Option, ◌==◌, nat_le, nat_lt, slice_index_or, slice_set}
+use Rattle.std.specs.Prelude.{ℕ, ◌+◌, ◌-◌, ◌*◌, ◌/◌, ◌%◌, ◌^◌, ◌<◌, ◌≤◌, max, Bool, true, false, cond, not, ◌||◌, List, [], ◌∷◌, ◌++◌, map, length, replicate, pos, ◌-ℤ◌, Some, None, codes, sum_by, count_by, Option, ◌==◌, nat_le, nat_lt, slice_index_or, slice_set}
 use Rattle.model.specs.declared.calls.Call.{Call}
 use Rattle.model.specs.declared.calls.Call.TheVariants.{Open, Close, Change, Pick, Arrive, Depart}
 use Rattle.model.specs.declared.calls.Refusal.{Refusal}
@@ -211,7 +211,7 @@ checks choices st (Change c) =
     ∷ (nat_le 32 c.session, refused.Session)
     ∷ (not (at st c.session).is_open, refused.Closed)
     ∷ (bad_interval c.interval, refused.Interval)
-    ∷ (any (λ p. ltb frame (advance p.bytes c.interval)) (at st c.session).waiting, refused.Length)
+    ∷ (any (λ p. nat_lt frame (advance p.bytes c.interval)) (at st c.session).waiting, refused.Length)
     ∷ (raised_unbooked st c.session (frame / c.interval) (position (potential st.wire c.time) (at st c.session)), refused.Share)
     ∷ []
 checks choices st (Pick c) =
@@ -288,7 +288,7 @@ closed P s =
 -- Changed at the potential P and the time t: only a lowering holds the old share, and the head is stamped anew.
 abbrev pub changed : ℕ → ℕ → ℕ → Session → Session
 changed P t interval s =
-    let lower = ltb (frame / interval) (share s) in
+    let lower = nat_lt (frame / interval) (share s) in
     record { is_open = s.is_open; interval = interval; places = s.places; last_finish = s.last_finish; last_due = s.last_due; held = cond lower (hold P s) s.held; mark = cond lower (position P s) s.mark; start = position P s; due_start = max s.due_start t; waiting = s.waiting }
 
 -- These packets wait after a last finish and a last due: the first, if there is one, becomes head.

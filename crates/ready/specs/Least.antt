@@ -1,5 +1,5 @@
 -- The least of some keys, and the session that has it: the lower session on equal keys.
-use Rattle.std.specs.Prelude.{◌≡◌, ℕ, suc, ◌<◌, true, false, cond, List, [], ◌∷◌, get_or, Some, None, Option, slice_index_or}
+use Rattle.std.specs.Prelude.{◌≡◌, ℕ, suc, ◌<◌, true, false, cond, List, [], ◌∷◌, Some, None, Option, slice_index_or}
 use Rattle.ready.specs.declared.entry.Entry.{Entry}
 use Rattle.ready.specs.declared.key.Key.{Key}
 use Rattle.ready.specs.Keys.{no_later}
@@ -29,7 +29,7 @@ least ks = least_from 0 ks
 -- an entry stands first among the keys
 pub record First (ks : Keys) (e : Entry) : Type 0 where
   -- its session has its key
-  pub has : get_or ks e.session None ≡ Some e.key
+  pub has : slice_index_or ks e.session None ≡ Some e.key
   -- no session has a sooner one
   pub soonest : (n : ℕ) (k : Key) → slice_index_or ks n None ≡ Some k → no_later e.key k ≡ true
   -- the key of each lower session is later

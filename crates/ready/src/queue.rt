@@ -24,7 +24,7 @@ pub(crate) fn known(session: usize) -> Result<(), NoSession>
 }
 
 // A ready queue means, for each session, a key or none. A session above 31 is refused with no effect:
-// `set` past the end of a list leaves the list.
+// `slice_set` past the end of a list leaves the list.
 pub trait Ready: Sized {
     ghost keys: { Self → Keys };
 

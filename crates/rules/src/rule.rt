@@ -1,5 +1,5 @@
 // What a recalibration rule is.
-ghost use Rattle.std.specs.Prelude.{◌≡◌, ℕ, ◌<◌, ◌≤◌, ltb, if◌then◌else◌, nat_lt};
+ghost use Rattle.std.specs.Prelude.{◌≡◌, ℕ, ◌<◌, ◌≤◌, if◌then◌else◌, nat_lt};
 ghost use Rattle.rules.specs.Bases.{Lawful};
 
 // The ticks of a frame: a head's finish is never further than this past its start.
@@ -27,7 +27,7 @@ pub trait Rule: Sized {
     // Picks a choice, and says whether it was taken. A planner may write any number.
     fn pick(&mut self, number: u64) -> bool
         ensures taken { result ≡ nat_lt number (choices self.old) }
-        ensures after { self.new ≡ (if ltb number (choices self.old) then picked self.old number else self.old) };
+        ensures after { self.new ≡ (if nat_lt number (choices self.old) then picked self.old number else self.old) };
 
     ghost lawful: { (x : Self) → Lawful (meaning x) };
 
