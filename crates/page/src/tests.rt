@@ -1,9 +1,8 @@
 // Lines as they stand on a page, and what stands around them.
 use super::pieces::{Piece, put_line};
-use std::test::Fail;
 
 #[test]
-fn words_and_a_number(rt: HostRuntime) -> Result<(), Fail> {
+fn words_and_a_number(rt: HostRuntime) {
     let mut page = [b'#'; 48];
     let line = [
         Piece::Text("(refused "),
@@ -14,11 +13,10 @@ fn words_and_a_number(rt: HostRuntime) -> Result<(), Fail> {
     ];
     assert_eq!(rt; put_line(&mut page, 2, &line), 21);
     assert!(rt; &page[0..25] == b"##(refused 10 share)\n####".as_slice());
-    Ok(())
 }
 
 #[test]
-fn signs_and_zero(rt: HostRuntime) -> Result<(), Fail> {
+fn signs_and_zero(rt: HostRuntime) {
     let mut page = [b'#'; 96];
     let line = [
         Piece::Signed(-1207),
@@ -29,5 +27,4 @@ fn signs_and_zero(rt: HostRuntime) -> Result<(), Fail> {
     ];
     assert_eq!(rt; put_line(&mut page, 0, &line), 28);
     assert!(rt; &page[0..30] == b"-1207 0 18446744073709551615##".as_slice());
-    Ok(())
 }
