@@ -1,4 +1,4 @@
-//! Compares the proved run with two independent implementations of run files, byte by byte, and measures all three.
+//! Compares the proved run with two unproved implementations of run files, which share some passages, byte by byte, and measures all three.
 //!
 //!     bench compare COUNT SEED    runs COUNT random texts on pages of many sizes
 //!     bench speed                 four texts of full size, in nanoseconds a line
