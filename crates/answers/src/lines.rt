@@ -1,103 +1,90 @@
 // Answer lines laid on a page, every byte of it told.
-ghost use Rattle.std.specs.Prelude.{◌≡◌, ◌+◌, ◌≤◌, length, codes};
-ghost use Rattle.answers.specs.Lines.{answer_text, fault_text, left_text, refused_text};
-ghost use Rattle.page.specs.Page.{written};
+ghost use Rattle.std.specs.Prelude.{◌≡◌, ◌+◌, ◌≤◌, length};
+ghost use Rattle.answers.specs.Lines.{answer_text, fault_line, left_text, refused_text};
+ghost use Rattle.model.specs.Answers.{answer_of};
+ghost use Rattle.page.specs.Page.{HasRoom, laid};
 
-use super::words::{refusal_number, refusal_word};
 use model::calls::{Answer, Departure, Refusal};
-use page::pieces::{Piece, put_line};
+use page::Page;
+use page::pieces::Piece;
 
-// A call that is done.
-fn put_done(page: &mut [u8], at: usize) -> usize
-    requires { at + 192 ≤ length page.old }
-    ensures place { result ≡ at + length (codes "(done)\n") }
-    ensures near { result ≤ at + 168 }
-    ensures bytes { page.new ≡ written page.old at (codes "(done)\n") }
-{
-    put_line(page, at, &[Piece::Text("(done)\n")])
+// The fault of a line by its number and word, with the place where it was met.
+#[derive(Clone, Copy)]
+pub struct Fault<'a> {
+    pub number: u32,
+    pub word: &'a str,
+    pub line: usize,
+    pub column: usize,
 }
 
 // A call that is refused.
-fn put_refused(page: &mut [u8], at: usize, refusal: Refusal) -> usize
-    requires { at + 192 ≤ length page.old }
-    ensures place { result ≡ at + length (refused_text refusal) }
-    ensures near { result ≤ at + 168 }
-    ensures bytes { page.new ≡ written page.old at (refused_text refusal) }
+#[tactic(auto, unfolding(crate::specs::Lines::refused_text))]
+fn put_refused(page: &mut Page<'_>, refusal: Refusal)
+    requires { HasRoom page.old (length (refused_text refusal)) }
+    ensures { page.new ≡ laid page.old (refused_text refusal) }
 {
-    let pieces = [
+    page.put_line(&[
         Piece::Text("(refused "),
-        Piece::Number(refusal_number(refusal)),
+        Piece::number(refusal.number()),
         Piece::Text(" "),
-        Piece::Text(refusal_word(refusal)),
+        Piece::Text(refusal.word()),
         Piece::Text(")\n"),
-    ];
-    put_line(page, at, &pieces)
+    ]);
 }
 
 // A packet that has left.
-fn put_left(page: &mut [u8], at: usize, left: Departure) -> usize
-    requires { at + 192 ≤ length page.old }
-    ensures place { result ≡ at + length (left_text left) }
-    ensures near { result ≤ at + 168 }
-    ensures bytes { page.new ≡ written page.old at (left_text left) }
+fn put_left(page: &mut Page<'_>, left: Departure)
+    requires { HasRoom page.old (length (left_text left)) }
+    ensures { page.new ≡ laid page.old (left_text left) }
 {
-    let pieces = [
+    page.put_line(&[
         Piece::Text("(left (session "),
-        Piece::Number(left.session as u64),
+        Piece::number(left.session),
         Piece::Text(") (bytes "),
-        Piece::Number(left.bytes as u64),
+        Piece::number(left.bytes),
         Piece::Text(") (arrived "),
-        Piece::Number(left.arrived),
+        Piece::number(left.arrived),
         Piece::Text(") (at "),
-        Piece::Number(left.at),
+        Piece::number(left.at),
         Piece::Text(") (due "),
-        Piece::Number(left.due),
+        Piece::number(left.due),
         Piece::Text(") (spare "),
-        Piece::Signed(left.spare),
+        Piece::number(left.spare),
         Piece::Text(") (waiting "),
-        Piece::Number(left.waiting as u64),
+        Piece::number(left.waiting),
         Piece::Text("))\n"),
-    ];
-    put_line(page, at, &pieces)
+    ]);
 }
 
 // What a call was answered.
-pub fn put_answer(page: &mut [u8], at: usize, answer: Answer) -> usize
-    requires { at + 192 ≤ length page.old }
-    ensures place { result ≡ at + length (answer_text answer) }
-    ensures near { result ≤ at + 168 }
-    ensures bytes { page.new ≡ written page.old at (answer_text answer) }
+#[tactic(auto, using(crate::proofs::Lengths::left_short, crate::proofs::Lengths::refused_short))]
+pub fn put_answer(page: &mut Page<'_>, answer: Answer)
+    requires { HasRoom page.old 192 }
+    ensures near { page.new.end ≤ page.old.end + 168 }
+    ensures text { page.new ≡ laid page.old (answer_text (answer_of answer)) }
 {
     match answer {
-        Answer::Done => put_done(page, at),
-        Answer::Left(left) => put_left(page, at, left),
-        Answer::Refused(refusal) => put_refused(page, at, refusal),
+        Ok(None) => page.put_bytes(b"(done)\n"),
+        Ok(Some(left)) => put_left(page, left),
+        Err(refusal) => put_refused(page, refusal),
     }
 }
 
-// The fault of a line, by its number and word.
-pub fn put_fault(
-    page: &mut [u8],
-    at: usize,
-    number: u32,
-    word: &str,
-    line: usize,
-    column: usize,
-) -> usize
-    requires { at + length (fault_text number word.now line column) ≤ length page.old }
-    ensures place { result ≡ at + length (fault_text number word.now line column) }
-    ensures bytes { page.new ≡ written page.old at (fault_text number word.now line column) }
+// The fault of a line.
+#[tactic(auto, unfolding(crate::specs::Lines::fault_text))]
+pub fn put_fault(page: &mut Page<'_>, fault: Fault<'_>)
+    requires { HasRoom page.old (length (fault_line fault)) }
+    ensures { page.new ≡ laid page.old (fault_line fault.entry) }
 {
-    let pieces = [
+    page.put_line(&[
         Piece::Text("(fault "),
-        Piece::Number(number as u64),
+        Piece::number(fault.number),
         Piece::Text(" "),
-        Piece::Text(word),
+        Piece::Text(fault.word),
         Piece::Text(" "),
-        Piece::Number(line as u64),
+        Piece::number(fault.line as u64),
         Piece::Text(" "),
-        Piece::Number(column as u64),
+        Piece::number(fault.column as u64),
         Piece::Text(")\n"),
-    ];
-    put_line(page, at, &pieces)
+    ]);
 }

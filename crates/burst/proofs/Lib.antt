@@ -1,3 +1,3 @@
-mod Turns
 mod Windows
 mod Packets
+mod Lists

@@ -1,9 +1,9 @@
 -- The burst tool: which lists it takes, and what it answers.
-use Rattle.std.specs.Prelude.{◌≡◌, ℕ, ◌≤◌, Bool, false, ◌||◌, List, [], ◌∷◌, length, Some, None, Ok, Err, Option, Result, ◌==◌, nat_lt, slice_index_or}
+use Rattle.std.specs.Prelude.{ℕ, Bool, false, ◌||◌, List, [], ◌∷◌, length, Some, None, Ok, Err, Option, Result, ◌==◌, nat_lt, slice_index_or}
 use Rattle.model.specs.declared.calls.Parcel.{Parcel}
 use Rattle.model.specs.declared.calls.Refusal.{Refusal}
 use Rattle.model.specs.declared.calls.Refusal.TheVariants as refused
-use Rattle.model.specs.Model.{frame, bad_interval, first_of}
+use Rattle.model.specs.Model.{bad_interval, first_of}
 use Rattle.model.specs.Bursts.{burst, brought}
 
 -- The most packets of a list, and the most bytes of a packet.
@@ -49,9 +49,3 @@ bytes_at ps i = (slice_index_or ps i no_packet).bytes
 
 abbrev pub arrival_at : List Parcel → ℕ → ℕ
 arrival_at ps i = (slice_index_or ps i no_packet).arrival
-
--- Packets that are not refused, the first of them no earlier than this time.
-pub record Proper (interval time : ℕ) (ps : List Parcel) : Type 0 where
-  pub rate : interval ≤ frame
-  pub few : length ps ≤ most_packets
-  pub good : bad_packets time ps ≡ false

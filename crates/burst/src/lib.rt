@@ -6,10 +6,11 @@ ghost use Rattle.burst.specs.Laws.{BurstGreatest, FigureGreatest, SoundTaken};
 ghost use Rattle.burst.specs.Tool.{figure_of};
 
 use model::calls::{Parcel, Refusal};
+use traffic::Traffic;
 
-mod checks;
 #[cfg(test)]
 mod tests;
+mod traffic;
 mod window;
 
 // The greatest, over every first and last packet, of interval * bytes from first to last, both counted, less the time
@@ -17,27 +18,21 @@ mod window;
 pub fn figure(interval: u64, packets: &[Parcel]) -> Result<u64, Refusal>
     ensures { result ≡ figure_of interval packets.now }
 {
-    if checks::is_bad(interval, packets) {
-        return Err(Refusal::List);
-    }
-    Ok(window::greatest(interval, packets))
+    Ok(Traffic::new(interval, packets)?.greatest())
 }
 
 // The laws: the burst figure is the greatest over every first and last, so is what is answered, and just the sound lists are taken.
-pub fn burst_greatest_holds() -> u8
+#[tactic(auto, using(crate::proofs::Windows::burst_greatest))]
+pub fn burst_greatest_holds()
     ensures { BurstGreatest }
-{
-    0
-}
+{}
 
-pub fn figure_greatest_holds() -> u8
+#[tactic(auto, using(crate::proofs::Packets::figure_greatest))]
+pub fn figure_greatest_holds()
     ensures { FigureGreatest }
-{
-    0
-}
+{}
 
-pub fn sound_taken_holds() -> u8
+#[tactic(auto, using(crate::proofs::Lists::sound_taken))]
+pub fn sound_taken_holds()
     ensures { SoundTaken }
-{
-    0
-}
+{}

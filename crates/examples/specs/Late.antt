@@ -3,7 +3,7 @@ use Rattle.std.specs.Prelude.{◌≡◌, ◌+◌, ◌<◌, ◌≤◌, List, [], 
 use Rattle.model.specs.declared.calls.Call.{Call}
 use Rattle.model.specs.declared.calls.Call.TheVariants.{Open, Arrive, Depart}
 use Rattle.model.specs.declared.calls.Departure.{Departure}
-use Rattle.model.specs.declared.calls.Answer.TheVariants.{Done, Left}
+use Rattle.model.specs.Answers.{Done, Left}
 use Rattle.model.specs.Examples.{answers}
 
 -- Session 1 has half the frame, but at its arrival the wire is busy for 999 ticks more.

@@ -2,7 +2,7 @@
 use Rattle.std.specs.Prelude.{◌≡◌, ℕ, ◌+◌, ◌<◌, ◌≤◌, true, false, ◌⊎◌, List}
 use Rattle.model.specs.declared.calls.Call.{Call}
 use Rattle.model.specs.declared.calls.Call.TheVariants.{Depart}
-use Rattle.model.specs.Model.{wire_ticks, Setup, Sending, Wire, State, Rule, Lawful, at, waits, first, finish, due, end, outcome, replay}
+use Rattle.model.specs.Model.{wire_ticks, Setup, Sending, Wire, State, Acts, Lawful, at, waits, first, finish, due, end, outcome, replay}
 use Rattle.model.specs.Model.Wire.{idle, sending}
 
 -- The noted potential and the ticks of the packet.
@@ -35,5 +35,5 @@ Follows st w (sending n) = GoesNext st w n
 -- At every departure, after every list of calls, under every rule that keeps the law.
 abbrev pub NextPacketLaw : Type 0 → Type 0
 NextPacketLaw X =
-    (R : Rule X) (x : X) (setup : Setup) (calls : List Call) (w : Sending) → Lawful R x → (replay R x setup calls).state.wire ≡ sending w
+    (R : Acts X) (x : X) (setup : Setup) (calls : List Call) (w : Sending) → Lawful R x → (replay R x setup calls).state.wire ≡ sending w
     → Follows (replay R x setup calls).state w (outcome R (replay R x setup calls) Depart).state.wire

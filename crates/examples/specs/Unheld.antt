@@ -4,8 +4,7 @@ use Rattle.model.specs.declared.calls.Call.{Call}
 use Rattle.model.specs.declared.calls.Call.TheVariants.{Open, Change, Pick, Arrive, Depart}
 use Rattle.model.specs.declared.calls.Refusal.{Refusal}
 use Rattle.model.specs.declared.calls.Refusal.TheVariants as refused
-use Rattle.model.specs.declared.calls.Answer.{Answer}
-use Rattle.model.specs.declared.calls.Answer.TheVariants.{Done, Left, Refused}
+use Rattle.model.specs.Answers.{Answer, Done, Left, Refused}
 use Rattle.model.specs.Model.{Session, State, share, counted, Outcome, refusal, answered, rule_after, made}
 use Rattle.model.specs.Examples.{four, answers}
 

@@ -7,29 +7,21 @@ ghost use Rattle.examples.specs.Next.{NextPacketLaw};
 ghost use Rattle.examples.specs.Unheld.{HeldShareNeeded};
 
 // A packet may leave past its due time, so the longest packet belongs to the bound.
-pub fn longest_needed() -> u8
+pub fn longest_needed()
     ensures { LongestNeeded }
-{
-    0
-}
+{}
 
 // The law of rules leaves room for more than the four plain ones.
-pub fn another_lawful_rule() -> u8
+pub fn another_lawful_rule()
     ensures { AnotherLawfulRule }
-{
-    0
-}
+{}
 
 // The wire takes the head with the least finish, for every kind X of rule: a session that waits is not passed over.
-pub fn next_packet_law<X>() -> u8
+pub fn next_packet_law<X>()
     ensures { NextPacketLaw X }
-{
-    0
-}
+{}
 
 // A line that books without held shares lets a packet leave too late.
-pub fn held_share_needed() -> u8
+pub fn held_share_needed()
     ensures { HeldShareNeeded }
-{
-    0
-}
+{}

@@ -7,85 +7,68 @@ ghost use Rattle.grammar.specs.Lines.{FirstLine};
 ghost use Rattle.grammar.specs.Slots.{SlotsServe};
 
 // The reader reads exactly what a line spells.
-pub fn reads_what_is_spelled() -> u8
+pub fn reads_what_is_spelled()
     ensures { ReadsWhatIsSpelled }
-{
-    0
-}
+{}
 
 // A line spells at most one form.
-pub fn one_form() -> u8
+pub fn one_form()
     ensures { OneForm }
-{
-    0
-}
+{}
 
 // A line has at most one list of tokens.
-pub fn one_cut() -> u8
+#[tactic(auto, using(crate::proofs::Uniques::one_cut))]
+pub fn one_cut()
     ensures { OneCut }
-{
-    0
-}
+{}
 
 // A fault has a column of the line, or the one behind its last byte.
-pub fn column_in_line() -> u8
+#[tactic(auto, using(crate::proofs::Lasting::column_in_line))]
+pub fn column_in_line()
     ensures { ColumnInLine }
-{
-    0
-}
+{}
 
 // Counted from a later column, a fault is that much farther on, and nothing else changes.
-pub fn columns_shift() -> u8
+#[tactic(auto, using(crate::proofs::Shifts::columns_shift))]
+pub fn columns_shift()
     ensures { ColumnsShift }
-{
-    0
-}
+{}
 
 // A fault at a byte of the line stays, whatever follows behind a blank.
-pub fn fault_stays() -> u8
+pub fn fault_stays()
     ensures { FaultStays }
-{
-    0
-}
+{}
 
 // Fields read into slots are the same as those read by the names still wanted.
-pub fn slots_serve() -> u8
+#[tactic(auto, using(crate::proofs::Slots::slots_serve))]
+pub fn slots_serve()
     ensures { SlotsServe }
-{
-    0
-}
+{}
 
 // A text is cut into the only lines that it is made of.
-pub fn cuts_into_lines() -> u8
+pub fn cuts_into_lines()
     ensures { CutsIntoLines }
-{
-    0
-}
+{}
 
 // A text begins with its first line, and the lines of the rest follow.
-pub fn first_line() -> u8
+#[tactic(auto, using(crate::proofs::Cuts::first_line))]
+pub fn first_line()
     ensures { FirstLine }
-{
-    0
-}
+{}
 
 // A text has no more lines than bytes.
-pub fn few_lines() -> u8
+#[tactic(auto, using(crate::proofs::Cuts::few_lines))]
+pub fn few_lines()
     ensures { FewLines }
-{
-    0
-}
+{}
 
 // The lines of a text, each ended, are the text again.
-pub fn joins_back() -> u8
+#[tactic(auto, using(crate::proofs::Cuts::joins_back))]
+pub fn joins_back()
     ensures { JoinsBack }
-{
-    0
-}
+{}
 
 // Lines that are read, and lines that are not.
-pub fn examples_hold() -> u8
+pub fn examples_hold()
     ensures { Examples }
-{
-    0
-}
+{}

@@ -1,8 +1,10 @@
 -- The ones of a set of bits are as many as the sessions in it.
-use Rattle.std.proofs.Common.{◌≡◌, ℕ, zero, suc, ◌+◌, ◌-◌, ◌*◌, ◌/◌, ◌%◌, ◌<◌, ◌≤◌, Bool, true, false, cond, List, [], ◌∷◌, length, get_or, drop, count_by, sym, refl, ap, ◌∙◌, arith, length-drop, drop-cons}
+use Rattle.std.proofs.Common.{◌≡◌, ℕ, ◌+◌, ◌*◌, ◌/◌, ◌%◌, ◌≤◌, Bool, true, false, cond, List, [], ◌∷◌, reverse, count_by, sym, refl, ap, ◌∙◌, arith}
+use Rattle.std.specs.List.{fold}
 use lib.Count.{ones, ones_step}
-use Rattle.std.proofs.lemmas.List.Sums.{sum_by-cons}
-use Rattle.model.specs.Model.{Session, blank, waits}
+use Rattle.std.proofs.lemmas.List.{reverse-append}
+use Rattle.std.proofs.lemmas.List.Sums.{fold_push, sum_by-cons}
+use Rattle.model.specs.Model.{Session, waits}
 use Rattle.line.specs.Waiting.{waiting_bit, waiting_set}
 
 bit_le : (b : Bool) → cond {A = ℕ} b 1 0 ≤ 1
@@ -19,26 +21,12 @@ ones_waiting (s ∷ ss) =
     ones_step n ∙ ap (λ m. m + ones (n / 2)) low ∙ ap (λ m. waiting_bit s + ones m) high ∙ ap (λ m. waiting_bit s + m) (ones_waiting ss)
     ∙ sym (sum_by-cons (λ x. cond (waits x) 1 0) s ss)
 
--- one session more, from the last one down
-pub set_more : (ss : List Session) (n : ℕ) → 0 < n → n ≤ length ss → waiting_set (drop n ss) * 2 + waiting_bit (get_or ss (n - 1) blank) ≡ waiting_set (drop (n - 1) ss)
-set_more ss n some within =
-    let up : n ≡ suc (n - 1) = omega arith in
-    let here : n - 1 < length ss = omega arith in
-    ap (λ m. waiting_set (drop m ss) * 2 + waiting_bit (get_or ss (n - 1) blank)) up ∙ sym (ap waiting_set (drop-cons ss (n - 1) blank here))
+-- from the last session down
+abbrev pub set_from_last : List Session → ℕ
+set_from_last ss = fold (λ set s. set * 2 + waiting_bit s) 0 ss
 
--- 32 sessions fit 32 bits
-abbrev doubles : ℕ → ℕ
-doubles zero = 1
-doubles (suc n) = doubles n * 2
-
-set_low : (ss : List Session) (n : ℕ) → length ss ≤ n → waiting_set ss < doubles n
-set_low [] zero h = omega arith
-set_low [] (suc n) h = let less : 0 < doubles n = set_low [] n (omega arith) in omega arith
-set_low (s ∷ ss) zero h = absurd (omega arith)
-set_low (s ∷ ss) (suc n) h = omega (arith, set_low ss n (omega arith), bit_le (waits s))
-
-pub set_fits : (ss : List Session) (n : ℕ) → 0 < n → n ≤ length ss → length ss ≡ 32 → waiting_set (drop n ss) * 2 + waiting_bit (get_or ss (n - 1) blank) < 4294967296
-set_fits ss n some within full =
-    let short : length (drop (n - 1) ss) ≤ 32 = simp length-drop (omega arith) in
-    let most : waiting_set (drop (n - 1) ss) < 4294967296 = set_low (drop (n - 1) ss) 32 short in
-    omega (arith, set_more ss n some within)
+pub from_last_all : (ss : List Session) → set_from_last (reverse ss) ≡ waiting_set ss
+from_last_all [] = refl
+from_last_all (s ∷ ss) =
+    ap set_from_last (reverse-append (s ∷ []) ss) ∙ fold_push (λ set s. set * 2 + waiting_bit s) 0 (reverse ss) s
+    ∙ ap (λ set. set * 2 + waiting_bit s) (from_last_all ss)

@@ -1,9 +1,6 @@
-pub mod Sweep
-pub mod Fresh
-pub mod Steadies
-pub mod Totals
-pub mod Changes
-pub mod Queues
-pub mod Heads
-pub mod Bits
 pub mod Lengths
+pub mod Steadies
+pub mod Changes
+pub mod Bits
+pub mod Queues
+pub mod NextHead

@@ -1,22 +1,22 @@
--- A call on a line with a rule, given by what the rule means, its number of choices, and what a taken pick makes of it.
-use Rattle.std.specs.Prelude.{ℕ}
+-- A line with its rule, and a call on it.
 use Rattle.model.specs.declared.calls.Call.{Call}
-use Rattle.model.specs.declared.calls.Answer.{Answer}
-use Rattle.model.specs.Model.{State, Rule, refusal, rule_after, step}
+use Rattle.model.specs.Answers.{Answer}
+use Rattle.model.specs.Model.{Acts, Outcome, State, refusal, rule_after, step}
 
-module _ {X : Type 0} (meaning : X → ℕ → ℕ → ℕ) (choices : X → ℕ) (picked : X → ℕ → X) where
-  -- the rule as a run sees it
-  abbrev pub as_rule : Rule X
-  as_rule = record { means = meaning; choices = choices; after = picked }
+-- The rule as it stands, and the state of the line.
+pub record Held (X : Type 0) : Type 0 where
+  pub rule : X
+  pub state : State
 
-  -- the answer to a call
-  abbrev pub answer_to : X → State → Call → Answer
-  answer_to x st c = (step (choices x) (meaning x) st c).answer
+module _ {X : Type 0} (R : Acts X) (l : Held X) (c : Call) where
+  -- what the rules make of the call
+  abbrev pub outcome_of : Outcome
+  outcome_of = step (R.choices l.rule) (R.means l.rule) l.state c
+
+  -- the answer to it
+  abbrev pub answer_to : Answer
+  answer_to = outcome_of.answer
 
   -- the line after it
-  abbrev pub line_after : X → State → Call → State
-  line_after x st c = (step (choices x) (meaning x) st c).state
-
-  -- the rule after it
-  abbrev pub rule_then : X → State → Call → X
-  rule_then x st c = rule_after as_rule x c (refusal (choices x) st c)
+  abbrev pub line_after : Held X
+  line_after = record { rule = rule_after R l.rule c (refusal (R.choices l.rule) l.state c); state = outcome_of.state }

@@ -1,12 +1,7 @@
--- What the sums and differences of the code need, so that none leaves its range.
-use Rattle.std.specs.Prelude.{◌≡◌, ℕ, ◌^◌, ◌<◌, ◌≤◌, true, List, length, slice_index_or}
-use Rattle.model.specs.Model.{frame, advance, first, Session, blank, Wire, end}
-use Rattle.model.specs.Model.Wire.{idle, sending}
-
--- A session whose share and held share are parts of a frame.
-pub record WithinFrame (s : Session) : Type 0 where
-  pub divides : s.is_open ≡ true → 0 < s.interval
-  pub held : s.held ≤ frame
+-- What the sums of the code need, so that none leaves its range.
+use Rattle.std.specs.Prelude.{◌≡◌, ℕ, ◌+◌, ◌^◌, ◌<◌, ◌≤◌, true}
+use Rattle.std.specs.List.{AllByRecursion}
+use Rattle.model.specs.Model.{frame, advance, wire_ticks, first, due, Session, Sending, end}
 
 -- A session whose stamps are far from the end of their range, and whose head fits its share.
 pub record Low (s : Session) : Type 0 where
@@ -14,15 +9,19 @@ pub record Low (s : Session) : Type 0 where
   pub due_start : s.due_start < 2 ^ 56
   pub head : advance (first s.waiting).bytes s.interval ≤ frame
 
-abbrev pub AllWithin : List Session → Type 0
-AllWithin ss = (k : ℕ) → k < length ss → WithinFrame (slice_index_or ss k blank)
+-- Every session of a line: what waits is no longer than a line allows, and an interval is a part of the frame.
+pub record Bounded (s : Session) : Type 0 where
+  pub low : Low s
+  pub short : AllByRecursion (λ p. p.bytes ≤ 9216) s.waiting
+  pub divisor : s.is_open ≡ true → s.interval ≤ frame
 
--- A packet on the wire ends.
-abbrev pub Ends : Wire → Type 0
-Ends idle = Unit {0}
-Ends (sending w) = end w < 2 ^ 56
+-- A packet on the wire that is no longer than a line allows, and whose times and potentials are as far from the end of theirs.
+pub record Light (w : Sending) : Type 0 where
+  pub free : end w < 2 ^ 56
+  pub due : w.due < 2 ^ 56
+  pub sum : w.noted + wire_ticks w.packet.bytes < 2 ^ 56
+  pub short : w.packet.bytes ≤ 9216
 
--- A wire at the time t.
-abbrev pub Timed : Wire → ℕ → Type 0
-Timed idle t = Unit {0}
-Timed (sending w) t = (w.noted < 2 ^ 56) × (w.begun ≤ t) × (t < 2 ^ 56)
+-- The head of a session as it goes on the wire.
+abbrev pub head_sent : ℕ → ℕ → ℕ → Session → Sending
+head_sent place noted begun s = record { session = place; packet = first s.waiting; due = due s; noted = noted; begun = begun }

@@ -1,15 +1,27 @@
 // The memory of a line, got before the line is made.
-ghost use Rattle.std.specs.Prelude.{◌≡◌};
-ghost use Rattle.line.specs.Untouched.{touched};
-ghost use Rattle.line.specs.Views.{state};
+ghost use Rattle.std.specs.Prelude.{◌≡◌, replicate, IfOk};
+ghost use Rattle.model.specs.Model.{blank};
 
-use super::book::Book;
+use super::session::Session;
+use std::alloc::{AllocError, Global};
+use std::array;
+use std::marker::Model;
 
-// The book of a line that is not made yet, with memory for all the packets that can ever wait.
+// The sessions of a line that is not made yet, with memory for all the packets that can ever wait.
 #[derive(Drop)]
 pub struct Memory {
-    pub(crate) book: Book,
-    ghost fresh: { touched (state book) ≡ 0 },
+    pub(crate) sessions: [Session; 32],
+}
+
+impl Model for Memory {
+    ghost use Rattle.std.specs.Prelude.{◌≡◌, List, replicate};
+    ghost use Rattle.model.specs.Model as M;
+
+    ghost Value = { List M.Session };
+
+    ghost view = { λ m. m.sessions };
+
+    ghost invariant = { λ m. m.sessions ≡ replicate 32 M.blank };
 }
 
 // What a line is made of.
@@ -17,4 +29,14 @@ pub struct Memory {
 pub struct Parts<R> {
     pub memory: Memory,
     pub rule: R,
+}
+
+impl Memory {
+    // Want of memory is its only refusal, and no call on a line meets it later.
+    pub fn get(heap: Global) -> Result<Memory, AllocError>
+        ensures { IfOk result (λ m. m ≡ replicate 32 blank) }
+    {
+        let sessions = array::try_from_fn(|_| Session::new(heap))?;
+        Ok(Memory { sessions })
+    }
 }

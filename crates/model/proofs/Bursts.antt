@@ -5,7 +5,7 @@ use Rattle.std.proofs.lemmas.Bool.Decides.{nat_tests}
 use Rattle.model.specs.declared.calls.Refusal.{Refusal}
 use Rattle.model.specs.declared.calls.Call.{Call}
 use Rattle.model.specs.declared.calls.Call.TheVariants.{Open, Close, Change, Pick, Arrive, Depart}
-use Rattle.model.specs.Model.{advance, Sending, Wire, State, Setup, Rule, Lawful, Event, Run, Session, end, depart, answered, refusal, outcome, next, new}
+use Rattle.model.specs.Model.{advance, Sending, Wire, State, Setup, Acts, Lawful, Event, Run, Session, end, depart, answered, refusal, outcome, next, new}
 use Rattle.model.specs.Model.Wire.{idle, sending}
 use Rattle.model.specs.Promises.{Past, past, Throughout, Proper, WithinBurst, BurstBound, Promised}
 use Rattle.model.specs.Bursts.{windows, burst, brought}
@@ -99,11 +99,11 @@ within base st (Pick c) None before h told = tt
 within base st (Arrive c) None before h told = tt
 within base st Depart None before h told = within_depart base st.longest st.time st.wire st.sessions before h told
 
-record Bound {X : Type 0} (R : Rule X) (x : X) (longest : ℕ) (r : Run X) : Type 0 where
+record Bound {X : Type 0} (R : Acts X) (x : X) (longest : ℕ) (r : Run X) : Type 0 where
   knows : Known R x longest r
   bound : Throughout (λ e before. WithinBurst longest e.answer before) r.history
 
-bound_next : {X : Type 0} (R : Rule X) (x : X) (longest : ℕ) → Lawful R x → (r : Run X) (c : Call) → Bound R x longest r → Bound R x longest (next R r c)
+bound_next : {X : Type 0} (R : Acts X) (x : X) (longest : ℕ) → Lawful R x → (r : Run X) (c : Call) → Bound R x longest r → Bound R x longest (next R r c)
 bound_next R x longest law r c b =
     let st = r.state in
     let k = b.knows in
@@ -119,7 +119,7 @@ burst_bound X R x setup calls law proper =
     (along R (Bound R x setup.longest) (bound_next R x setup.longest law) (new x setup) calls (record { knows = known R x setup [] law; bound = tt })).bound
 
 -- the three together
-pub promised : {X : Type 0} (R : Rule X) (x : X) (setup : Setup) (calls : List Call) → Lawful R x → Proper setup → Promised R x setup calls
+pub promised : {X : Type 0} (R : Acts X) (x : X) (setup : Setup) (calls : List Call) → Lawful R x → Proper setup → Promised R x setup calls
 promised {X} R x setup calls law proper =
     record {
       on_time = λ k. on_time X R x setup (take k calls) law proper;

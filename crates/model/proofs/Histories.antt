@@ -9,7 +9,7 @@ use Rattle.model.specs.declared.calls.Refusal.{Refusal}
 use Rattle.model.specs.declared.calls.Call.{Call}
 use Rattle.model.specs.declared.calls.Call.TheVariants.{Open, Close, Change, Pick, Arrive, Depart}
 use Rattle.ready.specs.declared.entry.Entry.{Entry}
-use Rattle.model.specs.Model.{wire_ticks, Session, blank, Wire, State, Setup, Rule, Lawful, Run, waits, finish, at, end, potential, on_wire, bad_clock, bad_length, opened, closed, changed, joined, sent, rested, later, sends, arrived, at_rest, least_finish, least_start, freed, depart, answered, checks, refusal, first_of, next, new, replay}
+use Rattle.model.specs.Model.{wire_ticks, Session, blank, Wire, State, Setup, Acts, Lawful, Run, waits, finish, at, end, potential, on_wire, bad_clock, bad_length, opened, closed, changed, joined, sent, rested, later, sends, arrived, at_rest, least_finish, least_start, freed, depart, answered, checks, refusal, first_of, next, new, replay}
 use Rattle.model.specs.Model.Wire.{idle, sending}
 use Rattle.model.specs.Promises.{Past, unopened, opens, closes, changes, accepts, leaves, follow, past, NoPlaceLost}
 use Rattle.model.specs.History.{parcel, parcels, carried, History}
@@ -117,11 +117,11 @@ module _ (choices : ℕ) (base : ℕ → ℕ → ℕ) (st : State) (P : ℕ → 
   told_answered Depart None e = told_departed base st.longest st.time st.wire st.sessions P kept all
 
 -- what every call keeps, of the history too
-pub record Known {X : Type 0} (R : Rule X) (x : X) (longest : ℕ) (r : Run X) : Type 0 where
+pub record Known {X : Type 0} (R : Acts X) (x : X) (longest : ℕ) (r : Run X) : Type 0 where
   pub holds : Held R x longest r
   pub told : Told r.state (λ i. past i r.history)
 
-pub known_next : {X : Type 0} (R : Rule X) (x : X) (longest : ℕ) → Lawful R x → (r : Run X) (c : Call) → Known R x longest r → Known R x longest (next R r c)
+pub known_next : {X : Type 0} (R : Acts X) (x : X) (longest : ℕ) → Lawful R x → (r : Run X) (c : Call) → Known R x longest r → Known R x longest (next R r c)
 known_next R x longest law r c k =
     record {
       holds = held_next R x longest law r c k.holds;
@@ -150,7 +150,7 @@ blank_at i =
       | inr ge ↦ get_or_past (replicate 32 blank) i blank (omega (arith, length-replicate 32 blank))
     ]
 
-pub known : {X : Type 0} (R : Rule X) (x : X) (setup : Setup) (calls : List Call) → Lawful R x → Known R x setup.longest (replay R x setup calls)
+pub known : {X : Type 0} (R : Acts X) (x : X) (setup : Setup) (calls : List Call) → Lawful R x → Known R x setup.longest (replay R x setup calls)
 known R x setup calls law =
     along R (Known R x setup.longest) (known_next R x setup.longest law) (new x setup) calls
     (record { holds = held R x setup [] law; told = λ i. subst (λ s. Track i 0 idle s unopened) (sym (blank_at i)) (blank_track i) })

@@ -9,7 +9,7 @@ use Rattle.model.specs.declared.calls.Refusal.{Refusal}
 use Rattle.model.specs.declared.calls.Call.{Call}
 use Rattle.model.specs.declared.calls.Call.TheVariants.{Open, Close, Change, Pick, Arrive, Depart}
 use Rattle.ready.specs.declared.entry.Entry.{Entry}
-use Rattle.model.specs.Model.{frame, wire_ticks, advance, Session, blank, Sending, Wire, State, Setup, Rule, Reachable, Lawful, Run, share, some, waits, first, behind, finish, due, position, at, end, potential, overdue, bad_clock, all_places, opened, closed, hold, changed, headed, joined, sent, rested, later, arrived, least_finish, least_start, freed, depart, answered, step, checks, refusal, next, new, replay}
+use Rattle.model.specs.Model.{frame, wire_ticks, advance, Session, blank, Sending, Wire, State, Setup, Acts, Reachable, Lawful, Run, share, some, waits, first, behind, finish, due, position, at, end, potential, overdue, bad_clock, all_places, opened, closed, hold, changed, headed, joined, sent, rested, later, arrived, least_finish, least_start, freed, depart, answered, step, checks, refusal, next, new, replay}
 use Rattle.model.specs.Model.Wire.{idle, sending}
 use Rattle.model.specs.Model.Reachable.{unpicked}
 use Rattle.model.specs.Ranges.{last_time, Small, SmallWire, InRange, Ranges}
@@ -399,11 +399,11 @@ goes_on =
       in_range = in_range;
     }
 
-record Limited {X : Type 0} (R : Rule X) (x : X) (r : Run X) : Type 0 where
+record Limited {X : Type 0} (R : Acts X) (x : X) (r : Run X) : Type 0 where
   reached : Reachable R x r.rule
   steady : Steady r.state
 
-limited_next : {X : Type 0} (R : Rule X) (x : X) → Lawful R x → (r : Run X) (c : Call) → Limited R x r → Limited R x (next R r c)
+limited_next : {X : Type 0} (R : Acts X) (x : X) → Lawful R x → (r : Run X) (c : Call) → Limited R x r → Limited R x (next R r c)
 limited_next R x law r c k =
     record {
       reached = reach R x r.rule r.state c (refusal (R.choices r.rule) r.state c) refl k.reached;

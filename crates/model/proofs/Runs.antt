@@ -5,7 +5,7 @@ use Rattle.model.specs.declared.calls.Refusal.{Refusal}
 use Rattle.model.specs.declared.calls.Refusal.TheVariants as refused
 use Rattle.model.specs.declared.calls.Call.{Call}
 use Rattle.model.specs.declared.calls.Call.TheVariants.{Open, Close, Change, Pick, Arrive, Depart}
-use Rattle.model.specs.Model.{frame, wire_ticks, Session, blank, Sending, Wire, State, Setup, Rule, Reachable, Lawful, Run, share, waits, first, finish, due, end, checks, refusal, later, arrived, freed, least_finish, least_start, depart, answered, rule_after, outcome, next, make_refusal, new, calls_on, replay}
+use Rattle.model.specs.Model.{frame, wire_ticks, Session, blank, Sending, Wire, State, Setup, Acts, Reachable, Lawful, Run, share, waits, first, finish, due, end, checks, refusal, later, arrived, freed, least_finish, least_start, depart, answered, rule_after, outcome, next, make_refusal, new, calls_on, replay}
 use Rattle.model.specs.Model.Wire.{idle, sending}
 use Rattle.model.specs.Model.Reachable.{unpicked, picked}
 use Rattle.ready.specs.declared.entry.Entry.{Entry}
@@ -20,12 +20,12 @@ use Rattle.model.proofs.Sessions.{advance_enough, not_waiting}
 use Rattle.model.proofs.Steps.{keeps, kept_made}
 
 -- a property of runs that every call keeps
-pub along : {X : Type 0} (R : Rule X) (Q : Run X → Type 0) → ((r : Run X) (c : Call) → Q r → Q (next R r c)) → (r : Run X) (cs : List Call) → Q r → Q (calls_on R r cs)
+pub along : {X : Type 0} (R : Acts X) (Q : Run X → Type 0) → ((r : Run X) (c : Call) → Q r → Q (next R r c)) → (r : Run X) (cs : List Call) → Q r → Q (calls_on R r cs)
 along R Q one r [] q = q
 along R Q one r (c ∷ cs) q = along R Q one (next R r c) cs (one r c q)
 
 -- the rule stays one that picks can reach
-pub reach : {X : Type 0} (R : Rule X) (x y : X) (st : State) (c : Call) (o : Option Refusal) → refusal (R.choices y) st c ≡ o → Reachable R x y → Reachable R x (rule_after R y c o)
+pub reach : {X : Type 0} (R : Acts X) (x y : X) (st : State) (c : Call) (o : Option Refusal) → refusal (R.choices y) st c ≡ o → Reachable R x y → Reachable R x (rule_after R y c o)
 reach R x y st (Open c) o e h = h
 reach R x y st (Close c) o e h = h
 reach R x y st (Change c) o e h = h
@@ -92,13 +92,13 @@ head_in_time L t (sending v) ss P E k inv lt w =
     omega (arith, by, f.until)
 
 -- what every call keeps
-pub record Held {X : Type 0} (R : Rule X) (x : X) (longest : ℕ) (r : Run X) : Type 0 where
+pub record Held {X : Type 0} (R : Acts X) (x : X) (longest : ℕ) (r : Run X) : Type 0 where
   pub reached : Reachable R x r.rule
   pub long : r.state.longest ≡ longest
   pub kept : Kept r.state
   pub gone : Throughout (λ e before. LeftInTime longest e.answer) r.history
 
-pub held_next : {X : Type 0} (R : Rule X) (x : X) (longest : ℕ) → Lawful R x → (r : Run X) (c : Call) → Held R x longest r → Held R x longest (next R r c)
+pub held_next : {X : Type 0} (R : Acts X) (x : X) (longest : ℕ) → Lawful R x → (r : Run X) (c : Call) → Held R x longest r → Held R x longest (next R r c)
 held_next R x longest law r c h =
     let y = r.rule in
     let st = r.state in
@@ -112,7 +112,7 @@ held_next R x longest law r c h =
       gone = (subst (λ n. LeftInTime n (outcome R r c).answer) h.long out, h.gone);
     }
 
-pub held : {X : Type 0} (R : Rule X) (x : X) (setup : Setup) (calls : List Call) → Lawful R x → Held R x setup.longest (replay R x setup calls)
+pub held : {X : Type 0} (R : Acts X) (x : X) (setup : Setup) (calls : List Call) → Lawful R x → Held R x setup.longest (replay R x setup calls)
 held R x setup calls law =
     along R (Held R x setup.longest) (held_next R x setup.longest law) (new x setup) calls
     (record { reached = unpicked; long = refl; kept = kept_made setup; gone = tt })
@@ -136,6 +136,6 @@ made_proper longest none =
     (omega (arith, eqb-false longest 0 ok.0), ltb-false 9216 longest ok.1)
 
 -- one call more at the end of a list
-pub calls_push : {X : Type 0} (R : Rule X) (r : Run X) (cs : List Call) (c : Call) → calls_on R r (cs ++ (c ∷ [])) ≡ next R (calls_on R r cs) c
+pub calls_push : {X : Type 0} (R : Acts X) (r : Run X) (cs : List Call) (c : Call) → calls_on R r (cs ++ (c ∷ [])) ≡ next R (calls_on R r cs) c
 calls_push R r [] c = refl
 calls_push R r (d ∷ cs) c = calls_push R (next R r d) cs c

@@ -3,10 +3,9 @@ use Rattle.std.specs.Prelude.{◌≡◌, ℕ, zero, suc, ◌+◌, max, true, fal
 use Rattle.model.specs.declared.calls.Call.{Call}
 use Rattle.model.specs.declared.calls.Call.TheVariants.{Open, Change, Arrive, Depart}
 use Rattle.model.specs.declared.calls.Refusal.TheVariants as refused
-use Rattle.model.specs.declared.calls.Answer.{Answer}
-use Rattle.model.specs.declared.calls.Answer.TheVariants.{Done, Left, Refused}
+use Rattle.model.specs.Answers.{Answer, Done, Left, Refused}
 use Rattle.rules.specs.Bases.{clock_base, frame_base, start_base, stamp_base}
-use Rattle.model.specs.Model.{Session, Rule, Lawful, number, bad_interval, bad_length, finish, due, changed, replay}
+use Rattle.model.specs.Model.{Session, Acts, Lawful, number, bad_interval, bad_length, finish, due, changed, replay}
 use Rattle.model.specs.Bursts.{burst, brought}
 
 -- Four rules, of which a pick chooses one.
@@ -16,7 +15,7 @@ base (suc zero) = frame_base
 base (suc (suc zero)) = start_base
 base (suc (suc (suc n))) = stamp_base
 
-abbrev pub four : Rule ℕ
+abbrev pub four : Acts ℕ
 four = record { means = base; choices = λ x. 4; after = λ x n. n }
 
 -- They keep the law, whichever is chosen.

@@ -2,7 +2,7 @@
 use Rattle.std.specs.Prelude.{◌≡◌, ℕ, ◌+◌, max, true, false, cond, List, [], ◌∷◌, ◌++◌, map, ◌==◌}
 use Rattle.model.specs.declared.calls.Packet.{Packet}
 use Rattle.model.specs.declared.calls.Call.{Call}
-use Rattle.model.specs.Model.{advance, Setup, Wire, State, Rule, Lawful, at, waits, first, replay}
+use Rattle.model.specs.Model.{advance, Setup, Wire, State, Acts, Lawful, at, waits, first, replay}
 use Rattle.model.specs.Model.Wire.{idle, sending}
 use Rattle.model.specs.Promises.{Past, past, Proper}
 use Rattle.model.specs.declared.calls.Parcel.{Parcel}
@@ -34,5 +34,5 @@ pub record Agrees (i : ℕ) (st : State) (p : Past) : Type 0 where
 
 abbrev pub History : Type 0 → Type 0
 History X =
-    (R : Rule X) (x : X) (setup : Setup) (calls : List Call) → Lawful R x → Proper setup
+    (R : Acts X) (x : X) (setup : Setup) (calls : List Call) → Lawful R x → Proper setup
     → (i : ℕ) → Agrees i (replay R x setup calls).state (past i (replay R x setup calls).history)

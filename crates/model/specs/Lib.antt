@@ -1,3 +1,4 @@
+pub mod Answers
 pub mod Model
 pub mod Bursts
 pub mod Promises

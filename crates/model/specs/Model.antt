@@ -6,9 +6,9 @@ use Rattle.model.specs.declared.calls.Refusal.{Refusal}
 use Rattle.model.specs.declared.calls.Refusal.TheVariants as refused
 use Rattle.model.specs.declared.calls.Packet.{Packet}
 use Rattle.model.specs.declared.calls.Departure.{Departure}
-use Rattle.model.specs.declared.calls.Answer.{Answer}
-use Rattle.model.specs.declared.calls.Answer.TheVariants.{Done, Left, Refused}
+pub use Rattle.model.specs.Answers.{Answer, Done, Left, Refused}
 pub use Rattle.rules.specs.Bases.{frame}
+pub use Rattle.rules.specs.Acts.{Acts}
 use Rattle.ready.specs.declared.key.Key.{Key}
 use Rattle.ready.specs.declared.entry.Entry.{Entry}
 use Rattle.ready.specs.Least.{Keys, least}
@@ -416,19 +416,13 @@ answered base st c None = commit base st c
 abbrev pub step : ℕ → (ℕ → ℕ → ℕ) → State → Call → Outcome
 step choices base st c = answered base st c (refusal choices st c)
 
--- A recalibration rule as a run sees it.
-pub record Rule (X : Type 0) : Type 0 where
-  pub means : X → ℕ → ℕ → ℕ
-  pub choices : X → ℕ
-  pub after : X → ℕ → X
-
 -- What taken picks can make of a rule.
-pub data Reachable {X : Type 0} (R : Rule X) (x : X) : X → Type 0 where
+pub data Reachable {X : Type 0} (R : Acts X) (x : X) : X → Type 0 where
   unpicked : Reachable R x x
   picked : {y : X} (n : ℕ) → Reachable R x y → n < R.choices y → Reachable R x (R.after y n)
 
 -- The rule's law: the base is never above the least start, and no pick alters that.
-abbrev pub Lawful : {X : Type 0} → Rule X → X → Type 0
+abbrev pub Lawful : {X : Type 0} → Acts X → X → Type 0
 Lawful {X} R x = (y : X) → Reachable R x y → (s f : ℕ) → s < f → f ≤ s + frame → R.means y s f ≤ s
 
 -- A call and its answer.
@@ -443,7 +437,7 @@ pub record Run (X : Type 0) : Type 0 where
   pub history : List Event
 
 -- Only an accepted pick alters the rule.
-abbrev pub rule_after : {X : Type 0} → Rule X → X → Call → Option Refusal → X
+abbrev pub rule_after : {X : Type 0} → Acts X → X → Call → Option Refusal → X
 rule_after R x (Open c) o = x
 rule_after R x (Close c) o = x
 rule_after R x (Change c) o = x
@@ -453,11 +447,11 @@ rule_after R x (Arrive c) o = x
 rule_after R x Depart o = x
 
 -- One call in a run.
-abbrev pub outcome : {X : Type 0} → Rule X → Run X → Call → Outcome
+abbrev pub outcome : {X : Type 0} → Acts X → Run X → Call → Outcome
 outcome R r c = step (R.choices r.rule) (R.means r.rule) r.state c
 
 -- The run after it.
-abbrev pub next : {X : Type 0} → Rule X → Run X → Call → Run X
+abbrev pub next : {X : Type 0} → Acts X → Run X → Call → Run X
 next R r c =
     record {
       rule = rule_after R r.rule c (refusal (R.choices r.rule) r.state c);
@@ -478,10 +472,10 @@ abbrev pub new : {X : Type 0} → X → Setup → Run X
 new x setup = record { rule = x; state = made setup; history = [] }
 
 -- Some calls more.
-abbrev pub calls_on : {X : Type 0} → Rule X → Run X → List Call → Run X
+abbrev pub calls_on : {X : Type 0} → Acts X → Run X → List Call → Run X
 calls_on R r [] = r
 calls_on R r (c ∷ cs) = calls_on R (next R r c) cs
 
 -- A list of calls from the making of the line on.
-abbrev pub replay : {X : Type 0} → Rule X → X → Setup → List Call → Run X
+abbrev pub replay : {X : Type 0} → Acts X → X → Setup → List Call → Run X
 replay R x setup calls = calls_on R (new x setup) calls

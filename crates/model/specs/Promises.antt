@@ -4,11 +4,10 @@ use Rattle.model.specs.declared.calls.Call.{Call}
 use Rattle.model.specs.declared.calls.Call.TheVariants.{Open, Close, Change, Pick, Arrive, Depart}
 use Rattle.model.specs.declared.calls.Opening.{Opening}
 use Rattle.model.specs.declared.calls.Arrival.{Arrival}
-use Rattle.model.specs.declared.calls.Answer.{Answer}
-use Rattle.model.specs.declared.calls.Answer.TheVariants.{Done, Left, Refused}
+use Rattle.model.specs.Answers.{Answer, Done, Left, Refused}
 use Rattle.model.specs.declared.calls.Parcel.{Parcel}
 use Rattle.model.specs.Bursts.{burst, brought}
-use Rattle.model.specs.Model.{Setup, Sending, State, Rule, Lawful, Event, Run, at, waits, due, end, bad_clock, overdue, bad_length, on_wire, outcome, replay}
+use Rattle.model.specs.Model.{Setup, Sending, State, Acts, Lawful, Event, Run, at, waits, due, end, bad_clock, overdue, bad_length, on_wire, outcome, replay}
 use Rattle.model.specs.Model.Wire.{sending}
 
 -- What a history tells of a session since it opened: the interval and places it opened with, whether a change was accepted,
@@ -66,7 +65,7 @@ Throughout Q (e ∷ before) = Q e before × Throughout Q before
 abbrev pub Proper : Setup → Type 0
 Proper setup = (1 ≤ setup.longest) × (setup.longest ≤ 9216)
 
--- 1. On time: no packet passes its due time by more than the longest packet, be it on the wire, a head, or gone.
+-- On time: no packet passes its due time by more than the longest packet, be it on the wire, a head, or gone.
 abbrev pub LeftInTime : ℕ → Answer → Type 0
 LeftInTime longest Done = Unit {0}
 LeftInTime longest (Left d) = d.at ≤ d.due + longest
@@ -79,9 +78,9 @@ pub record NoneLate {X : Type 0} (longest : ℕ) (r : Run X) : Type 0 where
   pub gone : Throughout (λ e before. LeftInTime longest e.answer) r.history
 
 abbrev pub OnTime : Type 0 → Type 0
-OnTime X = (R : Rule X) (x : X) (setup : Setup) (calls : List Call) → Lawful R x → Proper setup → NoneLate setup.longest (replay R x setup calls)
+OnTime X = (R : Acts X) (x : X) (setup : Setup) (calls : List Call) → Lawful R x → Proper setup → NoneLate setup.longest (replay R x setup calls)
 
--- 2. Burst bound: a packet of a session that was not changed since it opened leaves by its arrival, the session's burst figure and the longest packet.
+-- Burst bound: a packet of a session that was not changed since it opened leaves by its arrival, the session's burst figure and the longest packet.
 abbrev pub WithinBurst : ℕ → Answer → List Event → Type 0
 WithinBurst longest Done before = Unit {0}
 WithinBurst longest (Left d) before =
@@ -91,10 +90,10 @@ WithinBurst longest (Refused r) before = Unit {0}
 
 abbrev pub BurstBound : Type 0 → Type 0
 BurstBound X =
-    (R : Rule X) (x : X) (setup : Setup) (calls : List Call) → Lawful R x → Proper setup
+    (R : Acts X) (x : X) (setup : Setup) (calls : List Call) → Lawful R x → Proper setup
     → Throughout (λ e before. WithinBurst setup.longest e.answer before) (replay R x setup calls).history
 
--- 3. No place lost: how many of its packets went on the wire since it opened.
+-- No place lost: how many of its packets went on the wire since it opened.
 abbrev pub gone_on_wire : ℕ → State → Past → ℕ
 gone_on_wire i st p = length p.departed + cond (on_wire st.wire i) 1 0
 
@@ -108,11 +107,11 @@ pub record FindsPlace {X : Type 0} (longest : ℕ) (r : Run X) (a : Arrival) : T
 
 abbrev pub NoPlaceLost : Type 0 → Type 0
 NoPlaceLost X =
-    (R : Rule X) (x : X) (setup : Setup) (calls : List Call) (a : Arrival) → Lawful R x → Proper setup
+    (R : Acts X) (x : X) (setup : Setup) (calls : List Call) (a : Arrival) → Lawful R x → Proper setup
     → FindsPlace setup.longest (replay R x setup calls) a → (outcome R (replay R x setup calls) (Arrive a)).answer ≡ Done
 
 -- All three, of one list of calls: wherever it has come to, after the first k calls.
-pub record Promised {X : Type 0} (R : Rule X) (x : X) (setup : Setup) (calls : List Call) : Type 0 where
+pub record Promised {X : Type 0} (R : Acts X) (x : X) (setup : Setup) (calls : List Call) : Type 0 where
   pub on_time : (k : ℕ) → NoneLate setup.longest (replay R x setup (take k calls))
   pub burst_bound : Throughout (λ e before. WithinBurst setup.longest e.answer before) (replay R x setup calls).history
   pub no_place_lost : (k : ℕ) (a : Arrival) → FindsPlace setup.longest (replay R x setup (take k calls)) a → (outcome R (replay R x setup (take k calls)) (Arrive a)).answer ≡ Done

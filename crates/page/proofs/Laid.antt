@@ -1,9 +1,9 @@
 -- The laws of a text laid on a page.
 use Rattle.std.proofs.Common.{◌≡◌, ℕ, ◌+◌, ◌-◌, ◌≤◌, List, [], ◌++◌, length, get_or, take, drop, sym, refl, ap, ◌∙◌, inl, inr, add-zero, add_assoc, arith, length-drop}
-use borrow.Rule.Slice.PartMut.{put_mid}
 use Rattle.std.proofs.lemmas.List.{append_assoc, length-append, length-take-le, take_at, drop-drop, drop_at, take-append-drop, get_or_append_left, get_or-append_right, get_or-take, get_or-drop, ext_get_or}
 use Rattle.std.proofs.lemmas.Bool.{cases_lt}
-use Rattle.page.specs.Page.{written, ChangedOnlyThere, OnlyThere, NoOther}
+use Rattle.page.specs.Page.{written, ChangedOnlyThere, OnlyThere, NoOther, HasRoom, laid}
+use Rattle.page.specs.declared.Page.{Page}
 
 pub written_length : (page : List ℕ) (at : ℕ) (text : List ℕ) → at + length text ≤ length page → length (written page at text) ≡ length page
 written_length page at text fits = simp (length-append, length-drop) (omega (arith, length-take-le at page (omega arith)))
@@ -30,18 +30,21 @@ written_more page at a b fits =
     ∙ append_assoc (take at page) a (b ++ drop (at + length (a ++ b)) page)
     ∙ ap (λ l. take at page ++ l) (sym (append_assoc a b (drop (at + length (a ++ b)) page)))
 
--- the same of three states of one page, where the second text starts at a place that is known to be behind the first
-pub written_behind : (page mid : List ℕ) (at end : ℕ) (a b : List ℕ) → at + length a ≤ length page → mid ≡ written page at a → end ≡ at + length a → written mid end b ≡ written page at (a ++ b)
-written_behind page mid at end a b fits is place =
-    ap (λ l. written l end b) is ∙ ap (λ n. written (written page at a) n b) place ∙ written_more page at a b fits
+-- the same of a page that has its end beside it, and the room that is left behind the first text
+pub laid_more : (page : Page) (a b : List ℕ) → HasRoom page (length a) → laid (laid page a) b ≡ laid page (a ++ b)
+laid_more page a b fits =
+    let bytes = written_more page.bytes.now page.end a b fits in
+    let end = add_assoc page.end (length a) (length b) ∙ ap (λ n. page.end + n) (sym (length-append a b)) in
+    λ i. record page { bytes = record page.bytes { now = bytes i }; end = end i }
 
--- a text copied onto the part that is as long
-pub part_written : (page : List ℕ) (at : ℕ) (text copy : List ℕ) → copy ≡ text → put_mid at (at + length text - at) page copy ≡ written page at text
-part_written page at text copy is =
-    let long : at + length text - at ≡ length text = omega arith in
-    ap (λ n. take at page ++ (copy ++ drop n (drop at page))) long
-    ∙ ap (λ l. take at page ++ (copy ++ l)) (drop-drop (length text) at page)
-    ∙ ap (λ l. take at page ++ (l ++ drop (at + length text) page)) is
+pub laid_nothing : (page : Page) → laid page [] ≡ page
+laid_nothing page =
+    let bytes = written_nothing page.bytes.now page.end in
+    let end = add-zero page.end in
+    λ i. record page { bytes = record page.bytes { now = bytes i }; end = end i }
+
+pub room_behind : (page : Page) (a : List ℕ) (n : ℕ) → HasRoom page (length a + n) → HasRoom (laid page a) n
+room_behind page a n room = omega (arith, written_length page.bytes.now page.end a (omega (arith, room)), room)
 
 pub only_there : OnlyThere
 only_there page at text fits =

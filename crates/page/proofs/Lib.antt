@@ -1,3 +1,3 @@
 -- The laws that callers cite.
 pub mod Laid
-pub mod Figures
+pub mod Lines

@@ -1,5 +1,7 @@
 -- What a text laid on a page changes, and what stays.
 use Rattle.std.specs.Prelude.{◌≡◌, ℕ, ◌+◌, ◌<◌, ◌≤◌, List, ◌++◌, length, take, drop, slice_index}
+use Rattle.std.specs.Borrow.{MutBor}
+use Rattle.page.specs.declared.Page.{Page}
 
 -- the page with a text from the place `at` on; the bytes before and behind the text stay
 abbrev pub written : List ℕ → ℕ → List ℕ → List ℕ
@@ -19,3 +21,15 @@ OnlyThere = (page : List ℕ) (at : ℕ) (text : List ℕ) → at + length text 
 -- and the page so laid is the only one of which that can be said
 abbrev pub NoOther : Type 0
 NoOther = (page : List ℕ) (at : ℕ) (text after : List ℕ) → at + length text ≤ length page → ChangedOnlyThere page at text after → after ≡ written page at text
+
+-- lent bytes as a page where nothing is laid
+abbrev pub blank : MutBor (List ℕ) → Page
+blank bytes = record { bytes = bytes; end = 0 }
+
+-- a text of n bytes fits behind what is laid
+abbrev pub HasRoom : Page → ℕ → Type 0
+HasRoom page n = page.end + n ≤ length page.bytes.now
+
+-- the page with a text more: its bytes behind what was laid, and its end behind them; the page is still that lent to it
+abbrev pub laid : Page → List ℕ → Page
+laid page text = record page { bytes = record page.bytes { now = written page.bytes.now page.end text }; end = page.end + length text }

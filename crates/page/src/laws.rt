@@ -2,15 +2,13 @@
 ghost use Rattle.page.specs.Page.{NoOther, OnlyThere};
 
 // A text that fits changes the bytes where it stands, and no other.
-pub fn only_there() -> u8
+#[tactic(auto, using(crate::proofs::Laid::only_there))]
+pub fn only_there()
     ensures { OnlyThere }
-{
-    0
-}
+{}
 
 // No other page has the text there and its own bytes elsewhere.
-pub fn no_other() -> u8
+#[tactic(auto, using(crate::proofs::Laid::no_other))]
+pub fn no_other()
     ensures { NoOther }
-{
-    0
-}
+{}

@@ -1,41 +1,46 @@
 // A line as pieces, laid one behind another.
-ghost use Rattle.std.specs.Prelude.{◌≡◌, ◌+◌, ◌≤◌, length};
-ghost use Rattle.page.specs.Page.{written};
+ghost use Rattle.std.specs.Prelude.{◌≡◌, ℤ, length};
+ghost use Rattle.page.specs.Page.{HasRoom, laid};
 ghost use Rattle.page.specs.Pieces.{line_text, piece_text};
 
-use super::numbers::{put_number, put_signed};
-use super::put_bytes;
+use super::Page;
 
-// A part of a line.
+// A part of a line; 128 bits hold each number that an answer has, signed or not. Not `Display` and `write!`: a `write!` tells
+// nothing of a page where it fails, nor that it succeeds where there is room.
 #[derive(Clone, Copy)]
 pub enum Piece<'a> {
     Text(&'a str),
-    Number(u64),
-    Signed(i64),
+    Number(i128),
 }
 
-// Lays the piece at the place, and answers the place behind it.
-pub fn put_piece(page: &mut [u8], at: usize, piece: Piece<'_>) -> usize
-    requires { at + length (piece_text piece) ≤ length page.old }
-    ensures place { result ≡ at + length (piece_text piece.entry) }
-    ensures bytes { page.new ≡ written page.old at (piece_text piece.entry) }
-{
-    match piece {
-        Piece::Text(text) => put_bytes(page, at, text.as_bytes()),
-        Piece::Number(number) => put_number(page, at, number),
-        Piece::Signed(number) => put_signed(page, at, number),
+impl Piece<'_> {
+    // A number of any of the narrower types.
+    pub fn number<N: Into<i128>>(number: N) -> Self
+        ensures { (wide : ℤ) × N.converts number wide × (result ≡ Piece.Number wide) }
+    {
+        Piece::Number(number.into())
     }
 }
 
-// Lays the pieces one behind another from the place on, and answers the place behind the last.
-pub fn put_line(page: &mut [u8], at: usize, pieces: &[Piece<'_>]) -> usize
-    requires { at + length (line_text pieces.now) ≤ length page.old }
-    ensures place { result ≡ at + length (line_text pieces.now) }
-    ensures bytes { page.new ≡ written page.old at (line_text pieces.now) }
-{
-    let mut end = at;
-    for piece in pieces {
-        end = put_piece(page, end, *piece);
+impl Page<'_> {
+    pub fn put(&mut self, piece: Piece<'_>)
+        requires { HasRoom self.old (length (piece_text piece)) }
+        ensures { self.new ≡ laid self.old (piece_text piece.entry) }
+    {
+        match piece {
+            Piece::Text(text) => self.put_bytes(text.as_bytes()),
+            Piece::Number(number) => self.put_number(number),
+        }
     }
-    end
+
+    // Lays the pieces one behind another.
+    #[tactic(auto, using(crate::proofs::Lines::room_for_next, crate::proofs::Lines::next_laid))]
+    pub fn put_line(&mut self, pieces: &[Piece<'_>])
+        requires { HasRoom self.old (length (line_text pieces.now)) }
+        ensures { self.new ≡ laid self.old (line_text pieces.now) }
+    {
+        for piece in pieces {
+            self.put(*piece);
+        }
+    }
 }

@@ -1,12 +1,13 @@
--- One changed leaf moves one winner of each level, and the leaves stay in their places.
-use Rattle.std.proofs.Common.{◌≡◌, ℕ, zero, suc, ◌+◌, ◌*◌, ◌/◌, ◌<◌, ◌≤◌, true, List, [], ◌∷◌, length, get_or, set, replicate, Option, sym, refl, ap, ◌∙◌, arith}
+-- One changed leaf: each match above it is played again, and the leaves stay in their places.
+use Rattle.std.proofs.Common.{◌≡◌, ℕ, zero, suc, ◌+◌, ◌-◌, ◌*◌, ◌/◌, ◌<◌, ◌≤◌, true, List, [], ◌∷◌, length, get_or, set, take, drop, replicate, Option, sym, refl, ap, ◌∙◌, arith}
 use lib.Seq.{map-set}
+use Rattle.std.proofs.Math.Seq.{take-set-lt}
 use Rattle.std.proofs.lemmas.Bool.{and_parts, and_from}
 use Rattle.ready.specs.declared.entry.Entry.{Entry}
 use Rattle.ready.specs.declared.key.Key.{Key}
 use Rattle.ready.specs.Keys.{no_later, last}
 use Rattle.ready.specs.Least.{Keys}
-use Rattle.ready.specs.Levels.{vacant, key_of, keys_of, leaf, leaves_of, in_time, blank, winner, winner_at, winners}
+use Rattle.ready.specs.Levels.{vacant, key_of, keys_of, leaf, leaves_of, in_time, winner, winners}
 use Rattle.ready.proofs.Ranks.{reflexive}
 
 -- place i is one of the two of pair h
@@ -26,23 +27,20 @@ winners_set (a ∷ b ∷ es) (suc (suc i)) (suc h) x d at within =
     ap (λ l. winner a b ∷ l) (winners_set es i h x d (omega (arith, at.0), omega (arith, at.1)) (omega arith))
     ∙ ap (λ n. set (winner a b ∷ winners es) (suc h) (winner (get_or (a ∷ b ∷ set es i x) n d) (get_or (a ∷ b ∷ set es i x) (suc n) d))) e
 
--- the match of place i is played again
-pub level : (low up : List Entry) (i : ℕ) (x w : Entry) → up ≡ winners low → 2 * (i / 2) + 1 < length low → w ≡ winner_at (set low i x) (i / 2) → set up (i / 2) w ≡ winners (set low i x)
-level low up i x w is within won =
-    let under : i / 2 + i / 2 ≤ i = omega arith in
-    let over : i ≤ suc (i / 2 + i / 2) = omega arith in
-    let first : 2 * (i / 2) ≡ i / 2 + i / 2 = omega arith in
-    let second : 2 * (i / 2) + 1 ≡ suc (i / 2 + i / 2) = omega arith in
-    let seen : ℕ → Entry = λ n. get_or (set low i x) n blank in
-    let again : w ≡ winner (seen (i / 2 + i / 2)) (seen (suc (i / 2 + i / 2))) = won ∙ ap (λ n. winner (seen n) (seen (2 * (i / 2) + 1))) first ∙ ap (λ n. winner (seen (i / 2 + i / 2)) (seen n)) second in
-    ap (λ l. set l (i / 2) w) is ∙ ap (set (winners low) (i / 2)) again ∙ sym (winners_set low i (i / 2) x blank (under, over) (omega arith))
-
--- the last match
-pub final : (l : List Entry) (w : Entry) → length l ≡ 2 → w ≡ winner_at l 0 → w ∷ [] ≡ winners l
-final [] w long won = absurd (omega arith)
-final (a ∷ []) w long won = absurd (omega arith)
-final (a ∷ b ∷ []) w long won = ap (λ x. x ∷ []) won
-final (a ∷ b ∷ c ∷ l) w long won = absurd (omega arith)
+-- the match above a written node is to be played again
+pub up : (nodes : List Entry) (n h : ℕ) (x w d : Entry) → h ≡ (n - 1) / 2 → 0 < n → n < 63 → length nodes ≡ 63
+    → winners (drop 1 nodes) ≡ take 31 (set nodes n x) → w ≡ winner (get_or (set nodes n x) (2 * h + 1) d) (get_or (set nodes n x) (2 * h + 2) d)
+    → winners (drop 1 (set nodes n x)) ≡ take 31 (set (set nodes n x) h w)
+up [] n h x w d above below within full stood won = absurd (omega arith)
+up (a ∷ es) zero h x w d above below within full stood won = absurd (omega arith)
+up (a ∷ es) (suc i) h x w d above below within full stood won =
+    let first : 2 * h + 1 ≡ suc (h + h) = omega arith in
+    let second : 2 * h + 2 ≡ suc (suc (h + h)) = omega arith in
+    let seen : ℕ → Entry = λ n. get_or (a ∷ set es i x) n d in
+    let again : w ≡ winner (seen (suc (h + h))) (seen (suc (suc (h + h)))) = won ∙ ap (λ n. winner (seen n) (seen (2 * h + 2))) first ∙ ap (λ n. winner (seen (suc (h + h))) (seen n)) second in
+    winners_set es i h x d (omega arith, omega arith) (omega arith)
+    ∙ ap (λ l. set l h (winner (seen (suc (h + h))) (seen (suc (suc (h + h)))))) stood
+    ∙ ap (set (take 31 (set (a ∷ es) (suc i) x)) h) (sym again) ∙ sym (take-set-lt 31 (set (a ∷ es) (suc i) x) h w (omega arith))
 
 leaves_set : (k : ℕ) (ks : Keys) (i : ℕ) (x : Option Key) → leaves_of k (set ks i x) ≡ set (leaves_of k ks) i (leaf (k + i) x)
 leaves_set k [] i x = refl

@@ -1,30 +1,13 @@
 -- A knock-out among the leaves ends with the least key.
-use Rattle.std.proofs.Common.{◌≡◌, ℕ, suc, ◌+◌, ◌<◌, ◌≤◌, Bool, true, false, cond, ◌&&◌, ltb, List, [], ◌∷◌, length, Some, None, Option, sym, refl, ap, ◌∙◌, subst, arith}
-use lib.ListN.{length-map}
+use Rattle.std.proofs.Common.{◌≡◌, ℕ, zero, suc, ◌+◌, ◌-◌, ◌<◌, ◌≤◌, Bool, true, false, cond, ◌&&◌, ltb, List, [], ◌∷◌, length, get_or, take, drop, Some, None, Option, sym, refl, ap, ◌∙◌, subst, arith, lit≤}
+use Rattle.std.proofs.lemmas.List.{length-map, length-drop, take_all, take-take, drop-take}
 use Rattle.std.proofs.lemmas.Bool.{both_ways, cond-true, cond-false, cond_both, lt-ltb, and_parts}
 use Rattle.ready.specs.declared.entry.Entry.{Entry}
 use Rattle.ready.specs.declared.key.Key.{Key}
 use Rattle.ready.specs.Keys.{no_later, last}
 use Rattle.ready.specs.Least.{Keys, lesser, entry, least_from, least}
 use Rattle.ready.specs.Levels.{shown, key_of, keys_of, leaf, leaves_of, in_time, winner, winners}
-use Rattle.ready.proofs.Ranks.{transitive, later}
-
-lesser_none : (a : Option Entry) → lesser a None ≡ a
-lesser_none None = refl
-lesser_none (Some a) = refl
-
-three : (a b c : Entry) (ab bc : Bool) → no_later a.key b.key ≡ ab → no_later b.key c.key ≡ bc
-    → lesser (cond ab (Some a) (Some b)) (Some c) ≡ lesser (Some a) (cond bc (Some b) (Some c))
-three a b c true true p q = cond-true _ _ _ (transitive a.key b.key c.key p q) ∙ sym (cond-true _ _ _ p)
-three a b c true false p q = refl
-three a b c false true p q = cond-true _ _ _ q ∙ sym (cond-false _ _ _ p)
-three a b c false false p q = cond-false _ _ _ q ∙ sym (cond-false _ _ _ (later a.key b.key c.key p q))
-
-lesser_assoc : (a b c : Option Entry) → lesser (lesser a b) c ≡ lesser a (lesser b c)
-lesser_assoc None b c = refl
-lesser_assoc (Some a) None c = refl
-lesser_assoc (Some a) (Some b) None = lesser_none _
-lesser_assoc (Some a) (Some b) (Some c) = three a b c _ _ refl refl
+use Rattle.ready.proofs.Leasts.{lesser_none, lesser_assoc}
 
 -- an entry with no session has the last key, and no key is later
 abbrev Fair : Entry → Type 0
@@ -99,15 +82,49 @@ fair_leaves k (x ∷ xs) h early =
     let parts = and_parts _ _ early in
     (leaf_fair k x (omega arith) parts.0, fair_leaves (suc k) xs (omega arith) parts.1)
 
+-- the winners of a part of the pairs
+part : (k m : ℕ) (es : List Entry) → k + k + (m + m) ≤ length es → winners (take (m + m) (drop (k + k) es)) ≡ take m (drop k (winners es))
+part zero zero es within = refl
+part zero (suc m) [] within = absurd (omega arith)
+part zero (suc m) (a ∷ []) within = absurd (omega arith)
+part zero (suc m) (a ∷ b ∷ es) within =
+    let e : suc m + suc m ≡ suc (suc (m + m)) = omega arith in
+    ap (λ n. winners (take n (a ∷ b ∷ es))) e ∙ ap (λ l. winner a b ∷ l) (part zero m es (omega arith))
+part (suc k) m [] within = absurd (omega arith)
+part (suc k) m (a ∷ []) within = absurd (omega arith)
+part (suc k) m (a ∷ b ∷ es) within =
+    let e : suc k + suc k ≡ suc (suc (k + k)) = omega arith in
+    ap (λ n. winners (take (m + m) (drop n (a ∷ b ∷ es)))) e ∙ part k m es (omega arith)
+
+-- the nodes of a level are as many as stand before it, and one more
+abbrev level : List Entry → ℕ → List Entry
+level nodes k = take (suc k) (drop k nodes)
+
+-- each level has the winners of the one below
+below : (nodes : List Entry) (k : ℕ) → length nodes ≡ 63 → winners (drop 1 nodes) ≡ take 31 nodes → k ≤ 15 → level nodes k ≡ winners (level nodes (suc (k + k)))
+below [] k full won top = absurd (omega arith)
+below (a ∷ es) k full won top =
+    let width : suc (suc (k + k)) ≡ suc k + suc k = omega arith in
+    let all : 31 ≡ k + (31 - k) = omega arith in
+    let inner : level (take 31 (a ∷ es)) k ≡ level (a ∷ es) k =
+    ap (λ n. level (take n (a ∷ es)) k) all ∙ ap (take (suc k)) (drop-take k (31 - k) (a ∷ es)) ∙ take-take (suc k) (31 - k) (drop k (a ∷ es)) (omega arith) in
+    sym (ap (λ n. winners (take n (drop (k + k) es))) width ∙ part k (suc k) es (omega arith) ∙ ap (λ l. level l k) won ∙ inner)
+
 -- a knock-out of five rounds ends with the least
-pub champion_least : (es l16 l8 l4 l2 : List Entry) (c : Entry) → length es ≡ 32 → es ≡ leaves_of 0 (keys_of es) → in_time es ≡ true
-    → l16 ≡ winners es → l8 ≡ winners l16 → l4 ≡ winners l8 → l2 ≡ winners l4 → c ∷ [] ≡ winners l2 → shown c ≡ least (keys_of es)
-champion_least es l16 l8 l4 l2 c full own early w16 w8 w4 w2 w1 =
-    let room : 0 + length (keys_of es) ≤ 32 = omega (arith, length-map es key_of) in
-    let fair : AllFair es = subst AllFair (sym own) (fair_leaves 0 (keys_of es) room (subst (λ l. in_time l ≡ true) own early)) in
-    let u16 = next es l16 w16 fair in
-    let u8 = next l16 l8 w8 u16.fair in
-    let u4 = next l8 l4 w4 u8.fair in
-    let u2 = next l4 l2 w2 u4.fair in
-    let u1 = next l2 (c ∷ []) w1 u2.fair in
-    sym (lesser_none (shown c)) ∙ u1.same ∙ u2.same ∙ u4.same ∙ u8.same ∙ u16.same ∙ ap best own ∙ best_leaves 0 (keys_of es) room
+pub root_least : (nodes : List Entry) (d : Entry) → length nodes ≡ 63 → drop 31 nodes ≡ leaves_of 0 (keys_of (drop 31 nodes)) → in_time (drop 31 nodes) ≡ true
+    → winners (drop 1 nodes) ≡ take 31 nodes → shown (get_or nodes 0 d) ≡ least (keys_of (drop 31 nodes))
+root_least [] d full own early won = absurd (omega arith)
+root_least (a ∷ es) d full own early won =
+    let nodes : List Entry = a ∷ es in
+    let leaves : List Entry = drop 31 nodes in
+    let long : length leaves ≡ 32 = omega (arith, length-drop 31 nodes) in
+    let room : 0 + length (keys_of leaves) ≤ 32 = omega (arith, length-map leaves key_of) in
+    let fair : AllFair leaves = subst AllFair (sym own) (fair_leaves 0 (keys_of leaves) room (subst (λ l. in_time l ≡ true) own early)) in
+    let whole : level nodes 31 ≡ leaves = take_all 32 leaves (omega arith) in
+    let won_below : (k : ℕ) → k ≤ 15 → level nodes k ≡ winners (level nodes (suc (k + k))) = λ k. below nodes k full won in
+    let u16 = next leaves (level nodes 15) (won_below 15 (lit≤ tt) ∙ ap winners whole) fair in
+    let u8 = next (level nodes 15) (level nodes 7) (won_below 7 (lit≤ tt)) u16.fair in
+    let u4 = next (level nodes 7) (level nodes 3) (won_below 3 (lit≤ tt)) u8.fair in
+    let u2 = next (level nodes 3) (level nodes 1) (won_below 1 (lit≤ tt)) u4.fair in
+    let u1 = next (level nodes 1) (a ∷ []) (won_below 0 (lit≤ tt)) u2.fair in
+    sym (lesser_none (shown a)) ∙ u1.same ∙ u2.same ∙ u4.same ∙ u8.same ∙ u16.same ∙ ap best own ∙ best_leaves 0 (keys_of leaves) room

@@ -9,6 +9,3 @@ no_later a b = nat_le a.stamp b.stamp
 -- no key is later
 abbrev pub last : Key
 last = record { stamp = 18446744073709551615 }
-
-abbrev pub zero_key : Key
-zero_key = record { stamp = 0 }

@@ -1,17 +1,13 @@
 -- A knock-out among plain entries, level by level.
-use Rattle.std.specs.Prelude.{ℕ, suc, ◌+◌, ◌*◌, Bool, true, cond, ◌&&◌, List, [], ◌∷◌, map, Some, None, Option, nat_lt, slice_index_or}
+use Rattle.std.specs.Prelude.{ℕ, suc, Bool, true, cond, ◌&&◌, List, [], ◌∷◌, map, Some, None, Option, nat_lt}
 use Rattle.ready.specs.declared.entry.Entry.{Entry}
 use Rattle.ready.specs.declared.key.Key.{Key}
-use Rattle.ready.specs.Keys.{no_later, last, zero_key}
+use Rattle.ready.specs.Keys.{no_later, last}
 use Rattle.ready.specs.Least.{Keys}
 
 -- the leaf of a session that has no key
 abbrev pub vacant : Entry
 vacant = record { key = last; session = 32 }
-
--- what is read past the end of a list
-abbrev pub blank : Entry
-blank = record { key = zero_key; session = 0 }
 
 -- what a plain entry means
 abbrev pub shown : Entry → Option Entry
@@ -41,10 +37,6 @@ in_time (e ∷ es) = no_later e.key last && in_time es
 -- the left one, unless it is vacant or the right one's key is sooner
 abbrev pub winner : Entry → Entry → Entry
 winner a b = cond (nat_lt a.session 32 && no_later a.key b.key) a b
-
--- the winner of pair h
-abbrev pub winner_at : List Entry → ℕ → Entry
-winner_at es h = winner (slice_index_or es (2 * h) blank) (slice_index_or es (2 * h + 1) blank)
 
 -- the winners of the pairs
 abbrev pub winners : List Entry → List Entry

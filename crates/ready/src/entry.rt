@@ -4,7 +4,7 @@ ghost use Rattle.ready.specs.Least.{lesser, entry};
 
 use super::key::Key;
 
-#[derive(Clone, Copy)]
+#[derive(Clone, Copy, PartialEq, Eq, Debug)]
 pub struct Entry {
     pub key: Key,
     pub session: usize,
@@ -15,9 +15,8 @@ pub(crate) fn lesser(a: Option<Entry>, b: Option<Entry>) -> Option<Entry>
     ensures { result ≡ lesser a b }
 {
     match (a, b) {
-        (None, _) => b,
-        (_, None) => a,
         (Some(x), Some(y)) => if x.key.no_later(y.key) { a } else { b },
+        _ => a.or(b),
     }
 }
 
@@ -25,8 +24,5 @@ pub(crate) fn lesser(a: Option<Entry>, b: Option<Entry>) -> Option<Entry>
 pub(crate) fn entry_of(session: usize, key: Option<Key>) -> Option<Entry>
     ensures { result ≡ entry session key }
 {
-    match key {
-        Some(key) => Some(Entry { key, session }),
-        None => None,
-    }
+    key.map(|key| Entry { key, session })
 }

@@ -2,8 +2,6 @@
 ghost use Rattle.ready.specs.Least.{LeastLaw};
 
 // An entry is the least exactly if its session has its key, no key is sooner, and each lower session's key is later.
-pub fn least_is_least() -> u8
+pub fn least_is_least()
     ensures { LeastLaw }
-{
-    0
-}
+{}

@@ -9,18 +9,14 @@ use super::key::Key;
 pub const SESSIONS: usize = 32;
 
 // The refusal of a session above 31.
-#[derive(Clone, Copy)]
+#[derive(Clone, Copy, PartialEq, Eq, Debug)]
 pub struct NoSession;
 
 // Refuses a session above 31.
 pub(crate) fn known(session: usize) -> Result<(), NoSession>
     ensures { is_ok result ≡ nat_lt session 32 }
 {
-    if session < SESSIONS {
-        Ok(())
-    } else {
-        Err(NoSession)
-    }
+    (session < SESSIONS).then_some(()).ok_or(NoSession)
 }
 
 // A ready queue means, for each session, a key or none. A session above 31 is refused with no effect:
@@ -32,15 +28,26 @@ pub trait Ready: Sized {
     fn empty() -> Self
         ensures { keys result ≡ replicate 32 None };
 
+    // Sets a session's key, or takes it away.
+    fn set(&mut self, session: usize, key: Option<Key>) -> Result<(), NoSession>
+        ensures taken { is_ok result ≡ nat_lt session 32 }
+        ensures after { keys self.new ≡ slice_set (keys self.old) session key };
+
     // Sets a session's key.
     fn put(&mut self, session: usize, key: Key) -> Result<(), NoSession>
         ensures taken { is_ok result ≡ nat_lt session 32 }
-        ensures after { keys self.new ≡ slice_set (keys self.old) session (Some key) };
+        ensures after { keys self.new ≡ slice_set (keys self.old) session (Some key) }
+    {
+        self.set(session, Some(key))
+    }
 
     // Takes a session's key away.
     fn clear(&mut self, session: usize) -> Result<(), NoSession>
         ensures taken { is_ok result ≡ nat_lt session 32 }
-        ensures after { keys self.new ≡ slice_set (keys self.old) session None };
+        ensures after { keys self.new ≡ slice_set (keys self.old) session None }
+    {
+        self.set(session, None)
+    }
 
     // The least key and its session, the lower session on equal keys.
     fn least(&self) -> Option<Entry>
@@ -53,12 +60,6 @@ pub trait Ready: Sized {
 pub fn set_key<Q: Ready>(queue: &mut Q, session: usize, key: Option<Key>)
     ensures { Q.Ready.keys queue.new ≡ slice_set (Q.Ready.keys queue.old) session key }
 {
-    match key {
-        Some(key) => {
-            let _ = queue.put(session, key);
-        }
-        None => {
-            let _ = queue.clear(session);
-        }
-    }
+    // A refusal leaves the queue, which is what is promised.
+    let _ = queue.set(session, key);
 }

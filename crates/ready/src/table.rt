@@ -4,7 +4,7 @@ ghost use Rattle.std.proofs.Common.{rules, arith};
 
 use super::entry::{Entry, entry_of, lesser};
 use super::key::Key;
-use super::queue::{NoSession, Ready, SESSIONS, known};
+use super::queue::{NoSession, Ready, known};
 
 // A put costs one write, a least a walk over all sessions.
 #[derive(Drop)]
@@ -22,24 +22,16 @@ impl Ready for Table {
         Table { slots: [None; 32] }
     }
 
-    fn put(&mut self, session: usize, key: Key) -> Result<(), NoSession> {
+    fn set(&mut self, session: usize, key: Option<Key>) -> Result<(), NoSession> {
         known(session)?;
-        self.slots[session] = Some(key);
+        self.slots[session] = key;
         Ok(())
     }
 
-    fn clear(&mut self, session: usize) -> Result<(), NoSession> {
-        known(session)?;
-        self.slots[session] = None;
-        Ok(())
-    }
-
-    // From the last session down, so that the lower one is kept on equal keys.
     fn least(&self) -> Option<Entry> {
-        let mut best: Option<Entry> = None;
-        for session in (0..SESSIONS).rev() {
-            best = lesser(entry_of(session, self.slots[session]), best);
-        }
-        best
+        self.slots.iter().enumerate().fold(
+            None,
+            |best, (session, key)| lesser(best, entry_of(session, *key)),
+        )
     }
 }

@@ -1,9 +1,9 @@
 // A ready queue as a knock-out tree.
-ghost use Rattle.std.specs.Prelude.{◌≡◌, ◌+◌, ◌*◌, ◌<◌, true, [], ◌∷◌, length, if◌then◌else◌, Some, None, slice_set};
-ghost use Rattle.std.proofs.Common.{◌∙◌};
-ghost use Rattle.std.proofs.lemmas.List.{length-map};
+ghost use Rattle.std.specs.Prelude.{◌≡◌, ◌<◌, true, length, take, drop, if◌then◌else◌, slice_set};
+ghost use Rattle.std.proofs.Common.{arith};
+ghost use Rattle.std.proofs.lemmas.List.{length-map, length-drop};
 ghost use Rattle.ready.specs.Keys.{no_later, last};
-ghost use Rattle.ready.specs.Levels.{vacant, shown, key_of, keys_of, leaf, leaves_of, in_time, winner, winner_at, winners};
+ghost use Rattle.ready.specs.Levels.{shown, key_of, keys_of, leaf, leaves_of, in_time, winner, winners};
 
 use super::entry::Entry;
 use super::key::Key;
@@ -15,28 +15,16 @@ const VACANT: Entry = Entry {
     session: SESSIONS,
 };
 
-// A knock-out over 32 leaves: each level has the winners of the level below. Entries are plain, a vacant
-// one in place of none, so that a match costs no branch on an `Option`.
+// A knock-out over 32 leaves, the root first: the children of node n are the nodes 2n + 1 and 2n + 2, each node
+// above the leaves is the winner of its children, and the leaf of session i is node 31 + i. A vacant entry is in
+// place of `None`: with nodes of `Option<Entry>` a put and a least took half as long again at random keys.
 #[derive(Drop)]
 pub struct Tree {
-    leaves: [Entry; 32],
-    sixteen: [Entry; 16],
-    eight: [Entry; 8],
-    four: [Entry; 4],
-    two: [Entry; 2],
-    champion: Entry,
-    ghost full32: { length leaves ≡ 32 },
-    ghost full16: { length sixteen ≡ 16 },
-    ghost full8: { length eight ≡ 8 },
-    ghost full4: { length four ≡ 4 },
-    ghost full2: { length two ≡ 2 },
-    ghost own: { leaves ≡ leaves_of 0 (keys_of leaves) },
-    ghost early: { in_time leaves ≡ true },
-    ghost won16: { sixteen ≡ winners leaves },
-    ghost won8: { eight ≡ winners sixteen },
-    ghost won4: { four ≡ winners eight },
-    ghost won2: { two ≡ winners four },
-    ghost won1: { champion ∷ [] ≡ winners two },
+    nodes: [Entry; 63],
+    ghost full: { length nodes ≡ 63 },
+    ghost own: { drop 31 nodes ≡ leaves_of 0 (keys_of (drop 31 nodes)) },
+    ghost early: { in_time (drop 31 nodes) ≡ true },
+    ghost won: { winners (drop 1 nodes) ≡ take 31 nodes },
 }
 
 // The one with the lesser key; the left on equal keys.
@@ -64,97 +52,65 @@ fn winner(left: Entry, right: Entry) -> Entry
     }
 }
 
-// The winner of a pair of the level below.
-fn play(low: &[Entry], pair: usize) -> Entry
-    requires { 2 * pair + 1 < length low.now }
-    ensures { result ≡ winner_at low.now pair }
-{
-    winner(low[2 * pair], low[2 * pair + 1])
-}
-
-// The leaf of a session that has this key.
-fn occupied(session: usize, key: Key) -> Entry
+// The leaf of a session that has this key or none.
+fn leaf(session: usize, key: Option<Key>) -> Entry
     requires { session < 32 }
-    ensures is { result ≡ leaf session (Some key) }
-    ensures key { key_of result ≡ Some key }
+    ensures is { result ≡ leaf session key }
+    ensures key { key_of result ≡ key }
     ensures early { no_later result.key last ≡ true }
 {
-    Entry {
-        key: key.in_time(),
-        session,
-    }
-}
-
-// The leaf of a session that has no key.
-fn vacant() -> Entry
-    ensures is { result ≡ vacant }
-    ensures key { key_of result ≡ None }
-    ensures early { no_later result.key last ≡ true }
-{
-    VACANT
+    key.map_or(
+        VACANT,
+        |key| Entry {
+            key: key.in_time(),
+            session,
+        },
+    )
 }
 
 // What a plain entry means.
 fn shown(entry: Entry) -> Option<Entry>
     ensures { result ≡ shown entry }
 {
-    if entry.session < SESSIONS {
-        Some(entry)
-    } else {
-        None
-    }
+    (entry.session < SESSIONS).then_some(entry)
 }
 
-impl Tree {
-    // Writes a leaf and plays its five matches again.
-    fn store(&mut self, session: usize, entry: Entry)
-        requires within { session < 32 }
-        requires own { entry ≡ leaf session (key_of entry) }
-        requires early { no_later entry.key last ≡ true }
-        ensures { keys_of self.new.leaves ≡ slice_set (keys_of self.old.leaves) session (key_of entry) }
-    {
-        self.leaves[session] = entry;
-        let a = session / 2;
-        self.sixteen[a] = play(&self.leaves, a);
-        let b = a / 2;
-        self.eight[b] = play(&self.sixteen, b);
-        let c = b / 2;
-        self.four[c] = play(&self.eight, c);
-        let d = c / 2;
-        self.two[d] = play(&self.four, d);
-        self.champion = play(&self.two, 0);
+// Writes a session's leaf and plays its matches again, up to the root.
+fn replay(nodes: &mut [Entry; 63], session: usize, leaf: Entry)
+    requires within { session < 32 }
+    requires won { winners (drop 1 nodes.old) ≡ take 31 nodes.old }
+    ensures full { length nodes.new ≡ 63 }
+    ensures leaves { drop 31 nodes.new ≡ slice_set (drop 31 nodes.old) session leaf }
+    ensures won { winners (drop 1 nodes.new) ≡ take 31 nodes.new }
+{
+    let mut node = 31 + session;
+    let mut entry = leaf;
+    while node > 0 {
+        nodes[node] = entry;
+        node = (node - 1) / 2;
+        entry = winner(nodes[2 * node + 1], nodes[2 * node + 2]);
     }
+    nodes[0] = entry;
 }
 
 impl Ready for Tree {
-    ghost keys = { λ q. keys_of q.leaves };
+    ghost keys = { λ q. keys_of (drop 31 q.nodes) };
 
-    ghost size = { λ q. length-map q.leaves key_of ∙ q.full32 };
+    ghost size = { λ q. Prim.omega (arith, q.full, length-map (drop 31 q.nodes) key_of, length-drop 31 q.nodes) };
 
     fn empty() -> Tree {
         Tree {
-            leaves: [VACANT; 32],
-            sixteen: [VACANT; 16],
-            eight: [VACANT; 8],
-            four: [VACANT; 4],
-            two: [VACANT; 2],
-            champion: VACANT,
+            nodes: [VACANT; 63],
         }
     }
 
-    fn put(&mut self, session: usize, key: Key) -> Result<(), NoSession> {
+    fn set(&mut self, session: usize, key: Option<Key>) -> Result<(), NoSession> {
         known(session)?;
-        self.store(session, occupied(session, key));
-        Ok(())
-    }
-
-    fn clear(&mut self, session: usize) -> Result<(), NoSession> {
-        known(session)?;
-        self.store(session, vacant());
+        replay(&mut self.nodes, session, leaf(session, key));
         Ok(())
     }
 
     fn least(&self) -> Option<Entry> {
-        shown(self.champion)
+        shown(self.nodes[0])
     }
 }

@@ -2,9 +2,6 @@
 ghost use Rattle.std.specs.Prelude.{◌≡◌, [], Some, None, Ok, Err};
 ghost use Rattle.model.specs.Model.{calls_on, make_refusal, replay};
 ghost use Rattle.model.specs.Promises.{Promised};
-ghost use Rattle.line.specs.Calls.{as_rule};
-ghost use Rattle.line.specs.Sound.{Sound};
-ghost use Rattle.line.specs.Views.{state};
 ghost use Rattle.replay.specs.Turns.{calls_of, history_of, run_of, setup_of};
 
 use super::turn::Turn;
@@ -16,8 +13,7 @@ use rules::rule::Rule;
 
 // Makes every call of the turns on a line, and fills in the answers.
 fn play<R: Rule + Drop, Q: Ready + Drop>(line: &mut Line<R, Q>, turns: &mut [Turn])
-    requires sound { Sound (Q.Ready.keys line.old.finishes) (Q.Ready.keys line.old.starts) (state line.old.book) }
-    ensures { run_of line.new.rule (state line.new.book) turns.new ≡ calls_on (as_rule R.Rule.meaning R.Rule.choices R.Rule.picked) (run_of line.old.rule (state line.old.book) []) (calls_of turns.old) }
+    ensures { run_of line.new turns.new ≡ calls_on R.Rule.acts (run_of line.old []) (calls_of turns.old) }
 {
     for turn in turns.iter_mut() {
         turn.answer = line.serve(turn.call);
@@ -31,17 +27,12 @@ pub fn replay<R: Rule + Drop, Q: Ready + Drop>(
     turns: &mut [Turn],
 ) -> Result<(), Refusal>
     ensures told { elim result [ Ok done ↦ make_refusal longest ≡ None | Err e ↦ make_refusal longest ≡ Some e ] }
-    ensures answers { elim result [ Ok done ↦ history_of turns.new ≡ (replay (as_rule R.Rule.meaning R.Rule.choices R.Rule.picked) parts.rule (setup_of longest) (calls_of turns.old)).history | Err e ↦ turns.new ≡ turns.old ] }
-    ensures promised { elim result [ Ok done ↦ Promised (as_rule R.Rule.meaning R.Rule.choices R.Rule.picked) parts.rule (setup_of longest) (calls_of turns.old) | Err e ↦ Unit {0} ] }
+    ensures answers { elim result [ Ok done ↦ history_of turns.new ≡ (replay R.Rule.acts parts.rule (setup_of longest) (calls_of turns.old)).history | Err e ↦ turns.new ≡ turns.old ] }
+    ensures promised { elim result [ Ok done ↦ Promised R.Rule.acts parts.rule (setup_of longest) (calls_of turns.old) | Err e ↦ Unit {0} ] }
 {
-    let made: Result<Line<R, Q>, (Refusal, Parts<R>)> = Line::make(longest, parts);
-    match made {
-        Err((refusal, _)) => Err(refusal),
-        Ok(mut line) => {
-            play(&mut line, turns);
-            Ok(())
-        }
-    }
+    let mut line: Line<R, Q> = Line::make(longest, parts).map_err(|(refusal, _)| refusal)?;
+    play(&mut line, turns);
+    Ok(())
 }
 
 // Makes the same calls on two lines with the same rule: they are answered alike, whatever ready queues the lines have.
@@ -53,12 +44,10 @@ pub fn replay_both<R: Rule + Drop, P: Ready + Drop, Q: Ready + Drop>(
     second: &mut [Turn],
 ) -> Result<(), Refusal>
     ensures told { elim result [ Ok done ↦ make_refusal longest ≡ None | Err e ↦ make_refusal longest ≡ Some e ] }
-    ensures first { elim result [ Ok done ↦ history_of first.new ≡ (replay (as_rule R.Rule.meaning R.Rule.choices R.Rule.picked) one.rule (setup_of longest) (calls_of first.old)).history | Err e ↦ first.new ≡ first.old ] }
-    ensures second { elim result [ Ok done ↦ history_of second.new ≡ (replay (as_rule R.Rule.meaning R.Rule.choices R.Rule.picked) other.rule (setup_of longest) (calls_of second.old)).history | Err e ↦ second.new ≡ second.old ] }
+    ensures first { elim result [ Ok done ↦ history_of first.new ≡ (replay R.Rule.acts one.rule (setup_of longest) (calls_of first.old)).history | Err e ↦ first.new ≡ first.old ] }
+    ensures second { elim result [ Ok done ↦ history_of second.new ≡ (replay R.Rule.acts other.rule (setup_of longest) (calls_of second.old)).history | Err e ↦ second.new ≡ second.old ] }
     ensures alike { elim result [ Ok done ↦ (one.rule ≡ other.rule → calls_of first.old ≡ calls_of second.old → history_of first.new ≡ history_of second.new) | Err e ↦ make_refusal longest ≡ Some e ] }
 {
-    match replay::<R, P>(longest, one, first) {
-        Err(refusal) => Err(refusal),
-        Ok(()) => replay::<R, Q>(longest, other, second),
-    }
+    replay::<R, P>(longest, one, first)?;
+    replay::<R, Q>(longest, other, second)
 }

@@ -1,7 +1,7 @@
 // A call with the place for its answer.
 use model::calls::{Answer, Call};
 
-#[derive(Clone, Copy)]
+#[derive(Clone, Copy, PartialEq, Eq, Debug)]
 pub struct Turn {
     pub call: Call,
     pub answer: Answer,

@@ -1,38 +1,35 @@
 -- The rule of the run program: a pair of two pairs of plain rules.
-use Rattle.std.specs.Prelude.{◌≡◌, ℕ, false}
+use Rattle.std.specs.Prelude.{◌≡◌, false}
 use Rattle.rules.specs.declared.pair.Pair.{Pair}
-use Rattle.rules.specs.declared.clock.Clock.{Clock}
+use Rattle.rules.specs.declared.plain.Plain.{Plain}
+use Rattle.rules.specs.declared.plain.Clock.{Clock}
 use Rattle.rules.specs.declared.frame.Frame.{Frame}
-use Rattle.rules.specs.declared.start.Start.{Start}
-use Rattle.rules.specs.declared.stamp.Stamp.{Stamp}
+use Rattle.rules.specs.declared.plain.Start.{Start}
+use Rattle.rules.specs.declared.plain.Stamp.{Stamp}
+use Rattle.rules.specs.Acts.{Acts}
 use Rattle.rules.specs.Bases.{clock_base, frame_base, start_base, stamp_base}
-use Rattle.rules.specs.Pairs.{pair_meaning, pair_choices, pair_picked}
+use Rattle.rules.specs.Pairs.{pair_acts}
+use Rattle.rules.specs.Plain.{plain_acts}
 
 abbrev pub Program : Type 0
-Program = Pair (Pair Clock Frame) (Pair Start Stamp)
+Program = Pair (Pair (Plain Clock) (Plain Frame)) (Pair (Plain Start) (Plain Stamp))
 
-abbrev pub program_meaning : Program → ℕ → ℕ → ℕ
-program_meaning = pair_meaning (pair_meaning (λ _. clock_base) (λ _. frame_base)) (pair_meaning (λ _. start_base) (λ _. stamp_base))
-
-abbrev pub program_choices : Program → ℕ
-program_choices = pair_choices (pair_choices (λ _. 1) (λ _. 1)) (pair_choices (λ _. 1) (λ _. 1))
-
-abbrev pub program_picked : Program → ℕ → Program
-program_picked = pair_picked (pair_choices (λ _. 1) (λ _. 1)) (pair_picked (λ _. 1) (λ x _. x) (λ x _. x)) (pair_picked (λ _. 1) (λ x _. x) (λ x _. x))
+abbrev pub program_acts : Acts Program
+program_acts = pair_acts (pair_acts (plain_acts clock_base) (plain_acts frame_base)) (pair_acts (plain_acts start_base) (plain_acts stamp_base))
 
 -- As it is at first: the clock stands.
 abbrev pub program_start : Program
 program_start =
     record {
-      left = record { left = record {}; right = record {}; on_right = false };
-      right = record { left = record {}; right = record {}; on_right = false };
+      left = record { left = record { 0 = record {} }; right = record { 0 = record {} }; on_right = false };
+      right = record { left = record { 0 = record {} }; right = record { 0 = record {} }; on_right = false };
       on_right = false;
     }
 
 -- Whatever stood before, there are four choices: 0 clock, 1 frame, 2 start, 3 stamp.
 abbrev pub ProgramLaw : Type 0
-ProgramLaw = (x : Program) → (program_choices x ≡ 4)
-    × (program_meaning (program_picked x 0) ≡ clock_base)
-    × (program_meaning (program_picked x 1) ≡ frame_base)
-    × (program_meaning (program_picked x 2) ≡ start_base)
-    × (program_meaning (program_picked x 3) ≡ stamp_base)
+ProgramLaw = (x : Program) → (program_acts.choices x ≡ 4)
+    × (program_acts.means (program_acts.after x 0) ≡ clock_base)
+    × (program_acts.means (program_acts.after x 1) ≡ frame_base)
+    × (program_acts.means (program_acts.after x 2) ≡ start_base)
+    × (program_acts.means (program_acts.after x 3) ≡ stamp_base)

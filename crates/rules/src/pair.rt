@@ -1,16 +1,17 @@
 // Two rules of which one stands.
 ghost use Rattle.std.specs.Prelude.{◌≡◌, false};
-ghost use Rattle.rules.specs.Pairs.{pair_meaning, pair_choices, pair_picked, PairLaw};
+ghost use Rattle.rules.specs.Pairs.{pair_acts, PairLaw};
 ghost use Rattle.rules.specs.Bases.{Lawful};
-ghost use Rattle.rules.specs.Choose.{chosen, pair_fixed};
+ghost use Rattle.rules.specs.Choose.{pair_fixed};
 ghost use Rattle.std.proofs.Common.{arith};
+ghost use Rattle.std.proofs.lemmas.Bool.{cond_both};
 
 use super::rule::Rule;
 
 const MOST_CHOICES: u32 = 65_536;
 
 // A pair's choices are the left's, then the right's, cut off after 65,536. It means what the rule that
-// stands means: at first the left.
+// stands means: at first the left. The flag is no `Option`: the side that does not stand keeps its own pick.
 #[derive(Drop)]
 pub struct Pair<L, R> {
     left: L,
@@ -31,19 +32,15 @@ impl<L: Rule, R: Rule> Pair<L, R> {
 }
 
 impl<L: Rule, R: Rule> Rule for Pair<L, R> {
-    ghost meaning = { pair_meaning L.Rule.meaning R.Rule.meaning };
+    ghost acts = { pair_acts L.Rule.acts R.Rule.acts };
 
-    ghost choices = { pair_choices L.Rule.choices R.Rule.choices };
-
-    ghost picked = { pair_picked L.Rule.choices L.Rule.picked R.Rule.picked };
-
-    ghost lawful = { λ x. chosen Lawful x.on_right _ _ (R.Rule.lawful x.right) (L.Rule.lawful x.left) };
+    ghost lawful = { λ x. cond_both x.on_right _ _ Lawful (λ _. R.Rule.lawful x.right) (λ _. L.Rule.lawful x.left) };
 
     ghost some = { λ x. omega (arith, L.Rule.some x.left) };
 
     ghost few = { λ x. omega arith };
 
-    ghost fixed = { λ x n below. pair_fixed L.Rule.choices L.Rule.picked R.Rule.choices R.Rule.picked x n (L.Rule.fixed x.left n) (R.Rule.fixed x.right _) below };
+    ghost fixed = { λ x n below. pair_fixed L.Rule.acts R.Rule.acts x n (L.Rule.fixed x.left n) (R.Rule.fixed x.right _) below };
 
     fn count(&self) -> u32 {
         (self.left.count() + self.right.count()).min(MOST_CHOICES)
@@ -73,8 +70,6 @@ impl<L: Rule, R: Rule> Rule for Pair<L, R> {
 }
 
 // What a taken pick makes of a pair, in the terms of the two rules.
-pub fn pair_law<L: Rule, R: Rule>() -> u8
-    ensures { PairLaw L.Rule.meaning L.Rule.choices L.Rule.picked R.Rule.meaning R.Rule.choices R.Rule.picked }
-{
-    0
-}
+pub fn pair_law<L: Rule, R: Rule>()
+    ensures { PairLaw L.Rule.acts R.Rule.acts }
+{}

@@ -1,11 +1,9 @@
 // The rules on examples.
-use super::clock::*;
 use super::frame::*;
 use super::pair::*;
+use super::plain::*;
 use super::program::*;
 use super::rule::*;
-use super::stamp::*;
-use super::start::*;
 
 const LEAST_START: u64 = 60_000;
 
@@ -13,11 +11,11 @@ const LEAST_FINISH: u64 = 110_000;
 
 #[test]
 fn bases(rt: HostRuntime) {
-    assert_eq!(rt; Clock.base(LEAST_START, LEAST_FINISH), 0);
-    assert_eq!(rt; Frame.base(LEAST_START, LEAST_FINISH), 55_440);
-    assert_eq!(rt; Start.base(LEAST_START, LEAST_FINISH), 60_000);
-    assert_eq!(rt; Stamp.base(LEAST_START, LEAST_FINISH), 54_560);
-    assert_eq!(rt; Stamp.base(0, 55_439), 0);
+    assert_eq!(rt; Plain(Clock).base(LEAST_START, LEAST_FINISH), 0);
+    assert_eq!(rt; Plain(Frame).base(LEAST_START, LEAST_FINISH), 55_440);
+    assert_eq!(rt; Plain(Start).base(LEAST_START, LEAST_FINISH), 60_000);
+    assert_eq!(rt; Plain(Stamp).base(LEAST_START, LEAST_FINISH), 54_560);
+    assert_eq!(rt; Plain(Stamp).base(0, 55_439), 0);
 }
 
 #[test]
@@ -44,7 +42,7 @@ fn picks(rt: HostRuntime) {
 // A side keeps its own pick while the other stands.
 #[test]
 fn other_side_stays(rt: HostRuntime) {
-    let mut rule = Pair::new(Pair::new(Clock, Start), Stamp);
+    let mut rule = Pair::new(Pair::new(Plain(Clock), Plain(Start)), Plain(Stamp));
     assert_eq!(rt; rule.count(), 3);
     assert!(rt; rule.pick(1));
     assert!(rt; rule.pick(2));

@@ -1,9 +1,10 @@
 -- A study as the program holds it follows what its text has spelled.
-use Rattle.std.proofs.Common.{◌≡◌, ℕ, suc, ◌-◌, Bool, true, false, cond, ltb, List, [], ◌∷◌, ◌++◌, length, Some, None, Option, sym, refl, ap, ◌∙◌}
+use Rattle.std.proofs.Common.{◌≡◌, ℕ, suc, ◌-◌, cond, ltb, List, [], ◌∷◌, ◌++◌, length, Some, None, Option, sym, refl, ap, ◌∙◌}
+use Rattle.std.proofs.lemmas.Bool.{cond_both}
 use Rattle.grammar.specs.Lines.{lines}
 use Rattle.grammar.specs.Reader.{Answer as Reading, good, wrong, read}
 use Rattle.model.specs.declared.calls.Refusal.{Refusal}
-use Rattle.model.specs.Model.{Lawful, Rule, Run, make_refusal, new, refusal, replay, rule_after, step}
+use Rattle.model.specs.Model.{Lawful, Acts, Run, make_refusal, new, refusal, replay, rule_after, step}
 use Rattle.model.specs.Promises.{Proper}
 use Rattle.model.proofs.Bursts.{promised}
 use Rattle.model.proofs.Runs.{calls_push, made_proper}
@@ -12,7 +13,7 @@ use Rattle.run.specs.Machine.{said, line_after, line_text, lines_after, page_fau
 use Rattle.run.specs.Stages.{Stage, unlinked, linked, apart, link_after, stage_after, stage_reply}
 use Rattle.run.specs.Spelled.{Spelled, no_line, on_line, Kept, link_spells, page_of, setup_of, spelled_after, spelled_in, spelled_reply}
 
-module _ {X : Type 0} (R : Rule X) (x : X) where
+module _ {X : Type 0} (R : Acts X) (x : X) where
   abbrev pub Follows : Spelled → Stage X → Type 0
   Follows no_line (unlinked y) = y ≡ x
   Follows no_line (linked y st) = ⊥
@@ -94,14 +95,10 @@ module _ {X : Type 0} (R : Rule X) (x : X) where
   line_proper p h (good form) = then_proper p h (order_of form)
   line_proper p h (wrong e c) = h
 
-  either : (b : Bool) (p q : Spelled) → ProperLine p → ProperLine q → ProperLine (cond b p q)
-  either true p q h k = h
-  either false p q h k = k
-
   lines_proper : (p : Spelled) → ProperLine p → (n free : ℕ) (ls : List (List ℕ)) → ProperLine (lines_after (spelled_reply R x) spelled_after p n free ls)
   lines_proper p h n free [] = h
   lines_proper p h n free (l ∷ ls) =
-      either (ltb free 192) p _ h (lines_proper (line_after (spelled_reply R x) spelled_after p (read l)) (line_proper p h (read l)) (suc n) (free - length (line_text (spelled_reply R x) spelled_after p n (read l))) ls)
+      cond_both (ltb free 192) p _ ProperLine (λ _. h) (λ _. lines_proper (line_after (spelled_reply R x) spelled_after p (read l)) (line_proper p h (read l)) (suc n) (free - length (line_text (spelled_reply R x) spelled_after p n (read l))) ls)
 
   kept : Lawful R x → (p : Spelled) → ProperLine p → Kept R x p
   kept law no_line h = tt
@@ -110,4 +107,4 @@ module _ {X : Type 0} (R : Rule X) (x : X) where
   pub spelled_kept : Lawful R x → (size : ℕ) (text : List ℕ) → Kept R x (spelled_in R x size text)
   spelled_kept law size text =
       kept law (spelled_in R x size text)
-      (either (ltb size 32) no_line _ tt (either (ltb 65536 (length text)) no_line _ tt (lines_proper no_line tt 1 size (lines text))))
+      (cond_both (ltb size 32) no_line _ ProperLine (λ _. tt) (λ _. cond_both (ltb 65536 (length text)) no_line _ ProperLine (λ _. tt) (λ _. lines_proper no_line tt 1 size (lines text))))

@@ -1,4 +1,4 @@
-pub mod Cutting
 pub mod Turns
+pub mod Orders
 pub mod Follows
 pub mod Programs

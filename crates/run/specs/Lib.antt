@@ -3,6 +3,6 @@ pub mod Machine
 pub mod Stages
 pub mod Spelled
 pub mod Faults
+pub mod Replies
 pub mod Studies
-pub mod Placing
 pub mod Program

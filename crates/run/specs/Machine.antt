@@ -4,7 +4,7 @@ use Rattle.answers.specs.Lines.{answer_text, fault_text}
 use Rattle.grammar.specs.Faults.{fault_number, fault_word}
 use Rattle.grammar.specs.Lines.{lines}
 use Rattle.grammar.specs.Reader.{Answer as Reading, good, wrong, read}
-use Rattle.model.specs.declared.calls.Answer.{Answer}
+use Rattle.model.specs.Answers.{Answer}
 use Rattle.run.specs.Orders.{Order, order_of}
 
 -- What an order comes to: an answer, or it is out of order.

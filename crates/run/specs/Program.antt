@@ -1,18 +1,12 @@
 -- What the run program and a study editor get: a run with the four plain rules, the clock standing at first.
 use Rattle.std.specs.Prelude.{◌≡◌, ℕ, ◌⊎◌, List, length}
-use Rattle.line.specs.Calls.{as_rule}
-use Rattle.model.specs.Model.{Rule}
 use Rattle.page.specs.Page.{written}
-use Rattle.rules.specs.Program.{Program, program_choices, program_meaning, program_picked, program_start}
+use Rattle.rules.specs.Program.{program_acts, program_start}
 use Rattle.run.specs.Spelled.{Kept, page_of, spelled_in}
-
--- The program's rule as a run sees it.
-abbrev pub the_rule : Rule Program
-the_rule = as_rule program_meaning program_choices program_picked
 
 -- What a text writes on a page of this size.
 abbrev pub program_page : ℕ → List ℕ → List ℕ
-program_page size text = page_of the_rule program_start size text
+program_page size text = page_of program_acts program_start size text
 
 -- A run wrote all of it at the front of the page and nothing else, or had no memory, and wrote nothing.
 abbrev pub Ran : List ℕ → List ℕ → ℕ → List ℕ → Type 0
@@ -22,4 +16,4 @@ Ran text page r exit =
 
 -- Of the calls that a text spells, all is promised.
 abbrev pub ProgramKept : ℕ → List ℕ → Type 0
-ProgramKept size text = Kept the_rule program_start (spelled_in the_rule program_start size text)
+ProgramKept size text = Kept program_acts program_start (spelled_in program_acts program_start size text)

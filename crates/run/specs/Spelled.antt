@@ -3,7 +3,7 @@
 use Rattle.std.specs.Prelude.{ℕ, List, [], ◌∷◌, ◌++◌, Some, None, Option}
 use Rattle.model.specs.declared.calls.Call.{Call}
 use Rattle.model.specs.declared.calls.Refusal.{Refusal}
-use Rattle.model.specs.Model.{Rule, Setup, make_refusal, outcome, replay}
+use Rattle.model.specs.Model.{Acts, Setup, make_refusal, outcome, replay}
 use Rattle.model.specs.Promises.{Promised}
 use Rattle.run.specs.Orders.{Order, make, call}
 use Rattle.run.specs.Machine.{Reply, said, disorder, run_text, text_after}
@@ -29,7 +29,7 @@ spelled_after no_line (call c) = no_line
 spelled_after (on_line l cs) (make m) = on_line l cs
 spelled_after (on_line l cs) (call c) = on_line l (cs ++ (c ∷ []))
 
-module _ {X : Type 0} (R : Rule X) (x : X) where
+module _ {X : Type 0} (R : Acts X) (x : X) where
   -- a call is answered as the rules say after all the calls before it; a call without a line, and a second link, are out of order
   abbrev pub spelled_reply : Spelled → Order → Reply
   spelled_reply no_line (make l) = link_reply (make_refusal l)

@@ -14,14 +14,12 @@ pub fn waskurin_run(heap: Global, text: &[u8], page: &mut [u8]) -> usize
     ensures ran { Ran text.now page.old result page.new }
     ensures promised { ProgramKept (length page.old) text.now }
 {
-    match Memory::get(heap) {
-        Ok(memory) => {
-            let parts: Parts<ProgramRule> = Parts {
-                memory,
-                rule: program_rule(),
-            };
-            run::<ProgramRule, Tree>(parts, text, page)
-        }
-        Err(_) => 0,
-    }
+    let Ok(memory) = Memory::get(heap) else {
+        return 0;
+    };
+    let parts: Parts<ProgramRule> = Parts {
+        memory,
+        rule: program_rule(),
+    };
+    run::<ProgramRule, Tree>(parts, text, page)
 }

@@ -3,11 +3,12 @@ ghost use Rattle.std.specs.Prelude.{◌≡◌};
 ghost use Rattle.run.specs.Faults.{told};
 ghost use Rattle.run.specs.declared.faults.RunFault.TheVariants.{Form};
 
+use answers::lines::Fault;
 use runfile::faults::FormFault;
 use runfile::place::Place;
 
 // What is wrong with a line or with the whole: no form, a form out of order, a page without room, a text too long.
-#[derive(Clone, Copy)]
+#[derive(Clone, Copy, PartialEq, Eq, Debug)]
 pub enum RunFault {
     Form(FormFault),
     Order(Place),
@@ -23,52 +24,36 @@ impl From<FormFault> for RunFault {
     }
 }
 
+// What is told of a fault that was met at a place.
+fn met_at(number: u32, word: &str, place: Place) -> Fault<'_>
+    ensures { result ≡ record { number = number; word = word.entry; line = place.line; column = place.column } }
+{
+    Fault {
+        number,
+        word,
+        line: place.line,
+        column: place.column,
+    }
+}
+
 impl RunFault {
-    // The number that a report has for the fault.
-    pub fn number(self) -> u32
-        ensures { result ≡ (told self).number }
+    // What a report tells of it.
+    pub fn report(self) -> Fault<'static>
+        ensures number { result.number ≡ (told self).number }
+        ensures word { result.word.now ≡ (told self).word }
+        ensures line { result.line ≡ (told self).line }
+        ensures column { result.column ≡ (told self).column }
     {
         match self {
-            RunFault::Form(fault) => fault.number(),
-            RunFault::Order(_) => 25,
-            RunFault::Page(_) => 26,
-            RunFault::Text => 27,
-        }
-    }
-
-    // The word that a report has for the fault.
-    pub fn word(self) -> &'static str
-        ensures { result.now ≡ (told self).word }
-    {
-        match self {
-            RunFault::Form(fault) => fault.word(),
-            RunFault::Order(_) => "order",
-            RunFault::Page(_) => "page",
-            RunFault::Text => "text",
-        }
-    }
-
-    // The line where it was met.
-    pub fn line(self) -> usize
-        ensures { result ≡ (told self).line }
-    {
-        match self {
-            RunFault::Form(fault) => fault.place().line,
-            RunFault::Order(place) => place.line,
-            RunFault::Page(place) => place.line,
-            RunFault::Text => 0,
-        }
-    }
-
-    // The column where it was met.
-    pub fn column(self) -> usize
-        ensures { result ≡ (told self).column }
-    {
-        match self {
-            RunFault::Form(fault) => fault.place().column,
-            RunFault::Order(place) => place.column,
-            RunFault::Page(place) => place.column,
-            RunFault::Text => 0,
+            RunFault::Form(fault) => met_at(fault.number(), fault.word(), fault.place()),
+            RunFault::Order(place) => met_at(25, "order", place),
+            RunFault::Page(place) => met_at(26, "page", place),
+            RunFault::Text => Fault {
+                number: 27,
+                word: "text",
+                line: 0,
+                column: 0,
+            },
         }
     }
 }

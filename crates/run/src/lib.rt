@@ -5,5 +5,4 @@ mod answering;
 pub mod export;
 pub mod faults;
 pub mod runs;
-mod studies;
 pub mod study;

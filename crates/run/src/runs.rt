@@ -1,18 +1,17 @@
 // A whole text on a page.
 ghost use Rattle.std.specs.Prelude.{◌≡◌, length};
-ghost use Rattle.line.specs.Calls.{as_rule};
-ghost use Rattle.page.specs.Page.{written};
-ghost use Rattle.run.specs.Machine.{run_text};
+ghost use Rattle.page.specs.Page.{laid, written};
 ghost use Rattle.run.specs.Spelled.{Kept, page_of, spelled_in};
-ghost use Rattle.run.specs.Stages.{stage_after, stage_reply};
-ghost use Rattle.run.specs.Studies.{SoundStudy, stage_of};
+ghost use Rattle.run.specs.Stages.{stage_text};
 
-use super::answering::{answer_on, put_run_fault};
+use super::answering::{answer_line, put_outcome, put_run_fault};
 use super::faults::RunFault;
 use super::study::Study;
 use line::memory::Parts;
+use page::Page;
 use ready::queue::Ready;
 use rules::rule::Rule;
+use runfile::lines::Lines;
 use runfile::place::Place;
 
 // The free bytes without which no line is answered.
@@ -24,43 +23,52 @@ const SMALLEST: usize = 32;
 // The longest text that is read.
 const LONGEST_TEXT: usize = 65_536;
 
-// Answers every line of the text on the page, and tells how many bytes are written.
-fn run_study<R: Rule + Drop, Q: Ready + Drop>(
+// Answers every line of the text on a page where nothing is laid.
+fn answer_lines<R: Rule + Drop, Q: Ready + Drop>(
     mut study: Study<R, Q>,
+    text: &[u8],
+    page: &mut Page<'_>,
+)
+    requires { page.old.end ≡ 0 }
+    ensures { page.new ≡ laid page.old (stage_text R.Rule.acts study (length page.old.bytes.now) text.now) }
+{
+    if page.room() < SMALLEST {
+        return;
+    }
+    if text.len() > LONGEST_TEXT {
+        put_run_fault(page, RunFault::Text);
+        return;
+    }
+    for (i, line) in Lines::of(text).enumerate() {
+        let number = i + 1;
+        if page.room() < ROOM {
+            put_run_fault(page, RunFault::Page(Place::start_of_line(0, number)));
+            return;
+        }
+        put_outcome(page, answer_line(&mut study, line, number));
+    }
+}
+
+// The same from the first byte of the page on; tells how many bytes are written.
+fn run_study<R: Rule + Drop, Q: Ready + Drop>(
+    study: Study<R, Q>,
     text: &[u8],
     page: &mut [u8],
 ) -> usize
-    requires sound { SoundStudy Q.Ready.keys study }
-    ensures count { result ≡ length (run_text (stage_reply (as_rule R.Rule.meaning R.Rule.choices R.Rule.picked)) (stage_after (as_rule R.Rule.meaning R.Rule.choices R.Rule.picked)) (stage_of study) (length page.old) text.now) }
-    ensures bytes { page.new ≡ written page.old 0 (run_text (stage_reply (as_rule R.Rule.meaning R.Rule.choices R.Rule.picked)) (stage_after (as_rule R.Rule.meaning R.Rule.choices R.Rule.picked)) (stage_of study) (length page.old) text.now) }
+    ensures count { result ≡ length (stage_text R.Rule.acts study (length page.old) text.now) }
+    ensures bytes { page.new ≡ written page.old 0 (stage_text R.Rule.acts study (length page.old) text.now) }
 {
-    if page.len() < SMALLEST {
-        return 0;
-    }
-    if text.len() > LONGEST_TEXT {
-        return put_run_fault(page, 0, RunFault::Text);
-    }
-    let mut place = Place {
-        at: 0,
-        line: 1,
-        column: 1,
-    };
-    let mut end = 0;
-    while place.at < text.len() {
-        if page.len() - end < ROOM {
-            return put_run_fault(page, end, RunFault::Page(place));
-        }
-        end = answer_on(&mut study, text, &mut place, page, end);
-    }
-    end
+    let mut page = Page::new(page);
+    answer_lines(study, text, &mut page);
+    page.len()
 }
 
 // Runs a whole text on a page with these parts of a line, and tells how many bytes are written. Every line is answered as
 // the rules say after all the calls before it, and of the calls that the text spells all is promised.
 pub fn run<R: Rule + Drop, Q: Ready + Drop>(parts: Parts<R>, text: &[u8], page: &mut [u8]) -> usize
-    ensures count { result ≡ length (page_of (as_rule R.Rule.meaning R.Rule.choices R.Rule.picked) parts.rule (length page.old) text.now) }
-    ensures bytes { page.new ≡ written page.old 0 (page_of (as_rule R.Rule.meaning R.Rule.choices R.Rule.picked) parts.rule (length page.old) text.now) }
-    ensures promised { Kept (as_rule R.Rule.meaning R.Rule.choices R.Rule.picked) parts.rule (spelled_in (as_rule R.Rule.meaning R.Rule.choices R.Rule.picked) parts.rule (length page.old) text.now) }
+    ensures count { result ≡ length (page_of R.Rule.acts parts.rule (length page.old) text.now) }
+    ensures bytes { page.new ≡ written page.old 0 (page_of R.Rule.acts parts.rule (length page.old) text.now) }
+    ensures promised { Kept R.Rule.acts parts.rule (spelled_in R.Rule.acts parts.rule (length page.old) text.now) }
 {
     let study: Study<R, Q> = Study::new(parts);
     run_study(study, text, page)

@@ -1,11 +1,27 @@
--- How long the first line is, byte by byte. Assumes nothing.
-use Rattle.std.proofs.Common.{◌≡◌, ℕ, suc, ◌+◌, ◌<◌, List, length, get_or, drop, ◌∙◌}
-use Rattle.std.proofs.lemmas.List.{at_drop_more}
-use Rattle.std.proofs.lemmas.Bool.{cond-true, cond-false, eq-eqb, ne_eqb}
+-- How many bytes at the front of a text pass a test. Assumes nothing.
+use Rattle.std.proofs.Common.{◌≡◌, ℕ, ◌≤◌, drop, ap, add-one, suc, not, true, false, cond, ltb, List, [], ◌∷◌, length, Some, None, refl, ◌∙◌, one-add, arith}
+use Rattle.std.specs.Prelude.{◌==◌, unwrap_or}
+use Rattle.std.specs.List.{prefix_len, position_or_len}
+use Rattle.std.proofs.lemmas.Bool.Decides.{nat_tests}
+use Rattle.std.proofs.lemmas.List.{drop-drop}
+use Rattle.std.proofs.lemmas.List.Sums.{prefix_len-le-length}
+use Rattle.grammar.specs.Bytes.{inside, run_length}
 use Rattle.grammar.specs.Lines.{line_length}
 
-pub line_more : (xs : List ℕ) (i : ℕ) → i < length xs → (get_or xs i 0 ≡ 10 → ⊥) → line_length (drop i xs) ≡ suc (line_length (drop (i + 1) xs))
-line_more xs i h ne = at_drop_more line_length xs i 0 h ∙ cond-false _ _ _ (ne_eqb (get_or xs i 0) 10 ne)
+pub run_taken : (lo hi : ℕ) (bs : List ℕ) → prefix_len (inside lo hi) bs ≡ run_length lo hi bs
+run_taken lo hi [] = refl
+run_taken lo hi (b ∷ bs) = rw (one-add, run_taken lo hi bs)
 
-pub line_stops : (xs : List ℕ) (i : ℕ) → i < length xs → get_or xs i 0 ≡ 10 → line_length (drop i xs) ≡ 0
-line_stops xs i h e = at_drop_more line_length xs i 0 h ∙ cond-true _ _ _ (eq-eqb (get_or xs i 0) 10 e)
+line_taken : (bs : List ℕ) → position_or_len (λ b. b == 10) bs ≡ line_length bs
+line_taken [] = refl
+line_taken (b ∷ bs) = rw (one-add, line_taken bs) (elim (b == 10) as (λ t. cond (not t) (suc (line_length bs)) 0 ≡ cond t 0 (suc (line_length bs))) [ true ↦ refl | false ↦ refl ])
+
+or_all : (i n : ℕ) → i ≤ n → unwrap_or (cond (ltb i n) (Some i) None) n ≡ i
+or_all i n h = grind (arith, nat_tests)
+
+pub line_found : (bs : List ℕ) → unwrap_or (cond (ltb (position_or_len (λ b. b == 10) bs) (length bs)) (Some (position_or_len (λ b. b == 10) bs)) None) (length bs) ≡ line_length bs
+line_found bs = or_all _ _ (prefix_len-le-length (λ b. not (b == 10)) bs) ∙ line_taken bs
+
+-- behind a line, its end is passed over, if it has one
+pub behind_end : (xs back : List ℕ) (n : ℕ) → back ≡ drop n xs → drop 1 back ≡ drop (suc n) xs
+behind_end xs back n e = ap (drop 1) e ∙ drop-drop 1 n xs ∙ ap (λ k. drop k xs) (add-one n)

@@ -1,5 +1,4 @@
 -- The rows of the table that the kinds of the code stand for.
-use Rattle.std.specs.Prelude.{Some, None, Option}
 use Rattle.grammar.specs.Forms.{Row, link_row, open_row, close_row, change_row, pick_row, arrive_row, depart_row}
 use Rattle.runfile.specs.declared.words.Kind.{Kind}
 use Rattle.runfile.specs.declared.words.Kind.TheVariants.{Link, Open, Close, Change, Pick, Arrive, Depart}
@@ -13,8 +12,3 @@ row_of Change = change_row
 row_of Pick = pick_row
 row_of Arrive = arrive_row
 row_of Depart = depart_row
-
--- The row of a kind, if there is one.
-abbrev pub rows : Option Kind → Option Row
-rows None = None
-rows (Some k) = Some (row_of k)

@@ -1,5 +1,5 @@
 -- Places of the text, one behind another in a line.
-use Rattle.std.specs.Prelude.{◌≡◌, ℕ, ◌+◌, ◌^◌, ◌<◌, ◌≤◌}
+use Rattle.std.specs.Prelude.{◌≡◌, ℕ, ◌+◌, ◌≤◌}
 use Rattle.runfile.specs.declared.place.Place.{Place}
 
 -- The place n bytes on in the same line.
@@ -12,8 +12,3 @@ pub record Along (end : ℕ) (p q : Place) : Type 0 where
   pub behind : p.at ≤ q.at
   pub within : q.at ≤ end
   pub apart : q.column + p.at ≡ p.column + q.at
-
--- The place so many bytes on has an offset and a column that the machine can count.
-pub record Room (n : ℕ) (p : Place) : Type 0 where
-  pub offset : p.at + n < 2 ^ 64
-  pub column : p.column + n < 2 ^ 64

@@ -7,6 +7,7 @@ pub mod forms;
 pub mod lines;
 mod numbers;
 pub mod place;
+mod reader;
 mod scanner;
 mod tokens;
 mod words;

@@ -1,9 +1,9 @@
 // Where the reader stands, and the guard that puts it back.
-ghost use Rattle.std.specs.Prelude.{◌≡◌, ◌+◌, ◌^◌, ◌<◌, if◌then◌else◌};
+ghost use Rattle.std.specs.Prelude.{◌≡◌, ◌+◌, ◌^◌, ◌<◌, unwrap_or};
 ghost use Rattle.runfile.specs.Places.{ahead};
 
-// A place in the text: its offset, and its line and column, both counted from 1.
-#[derive(Clone, Copy)]
+// A place in the text that is read: its offset, and its line and column, both counted from 1.
+#[derive(Clone, Copy, PartialEq, Eq, Debug)]
 pub struct Place {
     pub at: usize,
     pub line: usize,
@@ -11,6 +11,17 @@ pub struct Place {
 }
 
 impl Place {
+    // The place of a line's first byte.
+    pub fn start_of_line(at: usize, line: usize) -> Place
+        ensures { result ≡ record { at = at; line = line; column = 1 } }
+    {
+        Place {
+            at,
+            line,
+            column: 1,
+        }
+    }
+
     // The place `n` bytes on in the same line.
     pub(crate) fn ahead(self, n: usize) -> Place
         requires { (self.at + n < 2 ^ 64) × (self.column + n < 2 ^ 64) }
@@ -24,25 +35,18 @@ impl Place {
     }
 }
 
-// Puts the place back to the first one when it goes, unless the form was kept: a line that is refused leaves the
-// reader where it began, whichever way its reader returns.
+// Puts the place back to the one that it holds when it goes: a line that is refused leaves the place where it began,
+// whichever way its reader returns. Once the form was kept there is none.
 pub(crate) struct Guard<'a> {
     pub(crate) place: &'a mut Place,
-    pub(crate) first: Place,
-    pub(crate) kept: bool,
+    pub(crate) back: Option<Place>,
 }
 
 impl Drop for Guard<'_> {
     fn drop(self)
-        ensures { self.exit.0.now ≡ (if self.entry.kept then self.entry.place.now else self.entry.first) }
+        ensures { self.exit.0.now ≡ unwrap_or self.entry.back self.entry.place.now }
     {
-        if !self.kept {
-            *self.place = self.first;
-        }
-        let Guard {
-            place: _,
-            first: _,
-            kept: _,
-        } = self;
+        let Guard { place, back } = self;
+        *place = back.unwrap_or(*place);
     }
 }

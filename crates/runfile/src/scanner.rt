@@ -1,13 +1,16 @@
-// The scanner: decides by the first byte what token begins, and hands on the rest.
-ghost use Rattle.std.specs.Prelude.{◌≡◌, ◌≤◌, length};
+// The scanner: decides by the first byte what token begins, and goes on to the rest.
+ghost use Rattle.std.specs.Prelude.{◌≡◌, ◌≤◌, length, IfOk};
 ghost use Rattle.grammar.specs.Bytes.{run_length};
-ghost use Rattle.grammar.specs.Reader.{cut, token};
-ghost use Rattle.grammar.specs.Tokens.{word as letters};
-ghost use Rattle.runfile.specs.Places.{Room};
-ghost use Rattle.runfile.specs.Scanned.{Scans, begun};
+ghost use Rattle.grammar.specs.Reader.{token};
+ghost use Rattle.runfile.specs.Met.{scan_met};
+ghost use Rattle.runfile.specs.Places.{Along};
+ghost use Rattle.runfile.specs.Reads.{Moves, line_end, read_of};
+ghost use Rattle.runfile.specs.Scanned.{begun, begun_at, found_of};
 
 use crate::faults::ScanFault;
+use crate::numbers::Digits;
 use crate::place::Place;
+use crate::reader::Reader;
 use std::str::from_utf8;
 
 // The blank, which may stand around tokens.
@@ -16,22 +19,13 @@ const BLANK: u8 = b' ';
 // How many digits a number has at most.
 const MOST_DIGITS: usize = 13;
 
-// A token: a bracket, or a part of the text that is a word or a number.
+// A token: a bracket, a word, or the digits of a number.
 #[derive(Clone, Copy)]
-pub enum Token<'a> {
+pub(crate) enum Token<'a> {
     Open,
     Close,
     Word(&'a str),
-    Number(&'a [u8]),
-}
-
-// The token met, if the line has one left, the places of its first byte and behind it, and the bytes behind it.
-#[derive(Clone, Copy)]
-pub struct Scanned<'a> {
-    pub token: Option<Token<'a>>,
-    pub place: Place,
-    pub next: Place,
-    pub rest: &'a [u8],
+    Number(Digits<'a>),
 }
 
 // How many bytes at the front lie between `low` and `high`.
@@ -39,76 +33,10 @@ fn run_len(bytes: &[u8], low: u8, high: u8) -> usize
     ensures value { result ≡ run_length low high bytes.now }
     ensures bound { result ≤ length bytes.now }
 {
-    let mut rest = bytes;
-    let mut n = 0;
-    while let [first, after @ ..] = rest {
-        if *first < low || high < *first {
-            break;
-        }
-        rest = after;
-        n += 1;
-    }
-    n
-}
-
-// The word that the first byte begins.
-fn scan_word<'a>(bytes: &'a [u8], place: Place) -> Result<Scanned<'a>, ScanFault>
-    requires { Room (length bytes.now) place }
-    ensures { Scans (length bytes.now) place result (cut letters (run_length 97 122 bytes.now) place.column bytes.now) }
-{
-    let n = run_len(bytes, b'a', b'z');
-    let (word, rest) = bytes.split_at(n);
-    match from_utf8(word) {
-        Ok(word) => Ok(Scanned {
-            token: Some(Token::Word(word)),
-            place,
-            next: place.ahead(n),
-            rest,
-        }),
-        Err(_) => Err(ScanFault::Foreign(place)),
-    }
-}
-
-// The token that the first byte begins.
-fn begin<'a>(bytes: &'a [u8], place: Place) -> Result<Scanned<'a>, ScanFault>
-    requires { Room (length bytes.now) place }
-    ensures { Scans (length bytes.now) place result (begun place.column bytes.now) }
-{
-    match bytes {
-        [] => Ok(Scanned {
-            token: None,
-            place,
-            next: place,
-            rest: bytes,
-        }),
-        [b'(', rest @ ..] => Ok(Scanned {
-            token: Some(Token::Open),
-            place,
-            next: place.ahead(1),
-            rest,
-        }),
-        [b')', rest @ ..] => Ok(Scanned {
-            token: Some(Token::Close),
-            place,
-            next: place.ahead(1),
-            rest,
-        }),
-        [b'a'..=b'z', ..] => scan_word(bytes, place),
-        [b'0'..=b'9', ..] => {
-            let n = run_len(bytes, b'0', b'9');
-            if n > MOST_DIGITS {
-                return Err(ScanFault::Long(place));
-            }
-            let (digits, rest) = bytes.split_at(n);
-            Ok(Scanned {
-                token: Some(Token::Number(digits)),
-                place,
-                next: place.ahead(n),
-                rest,
-            })
-        }
-        _ => Err(ScanFault::Foreign(place)),
-    }
+    bytes
+        .iter()
+        .take_while(|b| (low..=high).contains(*b))
+        .count()
 }
 
 // How many blanks are first.
@@ -119,11 +47,50 @@ fn blanks(bytes: &[u8]) -> usize
     run_len(bytes, BLANK, BLANK)
 }
 
-// The first token behind blanks.
-pub fn scan<'a>(bytes: &'a [u8], place: Place) -> Result<Scanned<'a>, ScanFault>
-    requires { Room (length bytes.now) place }
-    ensures { Scans (length bytes.now) place result (token place.column bytes.now) }
-{
-    let n = blanks(bytes);
-    begin(&bytes[n..], place.ahead(n))
+impl<'a> Reader<'a> {
+    // The token that the first byte begins, if there is one.
+    fn begin(&mut self) -> Result<Option<Token<'a>>, ScanFault>
+        ensures read { read_of scan_met (begun_at self.old.place.column) result self.new ≡ begun self.old.place.column self.old.rest.now }
+        ensures moves { Moves scan_met self.old result self.new }
+    {
+        let bytes = self.rest;
+        match bytes {
+            [] => Ok(None),
+            [b'(', rest @ ..] => {
+                self.go_to(rest);
+                Ok(Some(Token::Open))
+            }
+            [b')', rest @ ..] => {
+                self.go_to(rest);
+                Ok(Some(Token::Close))
+            }
+            [b'a'..=b'z', ..] => {
+                let (word, rest) = bytes.split_at(run_len(bytes, b'a', b'z'));
+                self.go_to(rest);
+                Ok(Some(Token::Word(from_utf8(word).unwrap())))
+            }
+            [b'0'..=b'9', ..] => {
+                let n = run_len(bytes, b'0', b'9');
+                if n > MOST_DIGITS {
+                    return Err(ScanFault::Long(self.place));
+                }
+                let (digits, rest) = bytes.split_at(n);
+                self.go_to(rest);
+                Ok(Some(Token::Number(Digits { bytes: digits })))
+            }
+            _ => Err(ScanFault::Foreign(self.place)),
+        }
+    }
+
+    // The first token behind blanks, if the line has one left, and its place.
+    pub(crate) fn token(&mut self) -> Result<(Option<Token<'a>>, Place), ScanFault>
+        ensures read { read_of scan_met found_of result self.new ≡ token self.old.place.column self.old.rest.now }
+        ensures moves { Moves scan_met self.old result self.new }
+        ensures found { IfOk result (λ f. Along (line_end self.old) self.old.place f.1) }
+    {
+        let n = blanks(self.rest);
+        self.go_to(&self.rest[n..]);
+        let place = self.place;
+        self.begin().map(|token| (token, place))
+    }
 }

@@ -3,6 +3,7 @@ ghost use Rattle.std.specs.Prelude.{◌≡◌, ◌<◌, length};
 ghost use Rattle.grammar.specs.Reader.{read as read_line};
 ghost use Rattle.runfile.specs.Forming.{answer_of};
 
+use model::calls::{Call, Opening};
 use runfile::faults::FormFault;
 use runfile::forms::{Form, read_form};
 use runfile::lines::line_len;
@@ -15,39 +16,39 @@ fn read(line: &[u8]) -> Result<Form, FormFault>
     requires { length line.now < 100 }
     ensures { answer_of result ≡ read_line line.now }
 {
-    let mut place = Place {
-        at: 0,
-        line: 7,
-        column: 1,
-    };
-    read_form(line, &mut place)
+    read_form(line, &mut Place::start_of_line(0, 7))
 }
 
 // The line is refused with this number at this column.
 fn refused(rt: &impl Abort, line: &[u8], number: u32, column: usize) -> Result<(), Fail>
-    requires { length line.now < 100 }
+    requires line { length line.now < 100 }
+    requires column { 0 < column }
 {
-    match read(line) {
-        Ok(_) => Err(Fail::new("a form was read")),
-        Err(fault) => {
-            assert_eq!(rt; fault.number(), number);
-            assert_eq!(rt; fault.place().line, 7);
-            assert_eq!(rt; fault.place().column, column);
-            Ok(())
+    let Err(fault) = read(line) else {
+        return Err(Fail::new("a form was read"));
+    };
+    assert_eq!(rt; fault.number(), number);
+    assert_eq!(rt;
+        fault.place(),
+        Place {
+            at: column - 1,
+            line: 7,
+            column
         }
-    }
+    );
+    Ok(())
 }
 
 #[test]
-fn fields_come_in_any_order(rt: HostRuntime) -> Result<(), Fail> {
-    let Ok(Form::Open(form)) = read(b"( open(places 4)(at0) (interval 0002)(session 31)) ") else {
-        return Err(Fail::new("no open was read"));
+fn fields_come_in_any_order(rt: HostRuntime) {
+    let form = read(b"( open(places 4)(at0) (interval 0002)(session 31)) ");
+    let opening = Opening {
+        session: 31,
+        interval: 2,
+        places: 4,
+        time: 0,
     };
-    assert_eq!(rt; form.at, 0);
-    assert_eq!(rt; form.session, 31);
-    assert_eq!(rt; form.interval, 2);
-    assert_eq!(rt; form.places, 4);
-    Ok(())
+    assert_eq!(rt; form, Ok(Form::Call(Call::Open(opening))));
 }
 
 #[test]

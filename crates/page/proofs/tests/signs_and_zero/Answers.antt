@@ -1,9 +1,8 @@
--- The line fits the page.
-use Rattle.std.proofs.Common.{arith}
+-- The line fits the page: its numbers are written out, and its length computes.
+use Rattle.std.proofs.Common.{length, ap, arith}
 use Rattle.std.specs.Fmt.{digits}
 use Rattle.page.proofs.tests.signs_and_zero.Goals as goal
 
--- the numbers are written out: the line's length computes
 pub put_line-requires : goal.put_line-requires
 unfolding digits
-put_line-requires c = omega arith
+put_line-requires g c = omega (arith, ap (λ p. p.end) c.new-page.ensures, ap (λ p. length p.bytes.now) c.new-page.ensures)

@@ -1,17 +1,14 @@
 use Rattle.std.proofs.Common.{length, ap, ◌∙◌}
-use Rattle.line.specs.Calls.{as_rule}
 use Rattle.page.specs.Page.{written}
-use Rattle.run.specs.Studies.{stage_of}
 use Rattle.run.proofs.Follows.{spelled_kept, writes_spelled}
 use Rattle.run.proofs.runs.run.Goals as goal
 
 pub returns : goal.returns
 returns g c =
-    let R = as_rule g.R.Rule.meaning g.R.Rule.choices g.R.Rule.picked in
     let size = length c.args.page.now in
-    let same = writes_spelled R c.args.parts.rule (stage_of c.new-study.result) c.new-study.ensures.stage size c.args.text.now in
+    let same = writes_spelled g.R.Rule.acts c.args.parts.rule c.new-study.result c.new-study.ensures size c.args.text.now in
     record {
       count = c.run_study.ensures.count ∙ ap length same;
       bytes = c.run_study.ensures.bytes ∙ ap (written c.args.page.now 0) same;
-      promised = spelled_kept R c.args.parts.rule (λ y reached. g.met.R.Rule.lawful y) size c.args.text.now;
+      promised = spelled_kept g.R.Rule.acts c.args.parts.rule (λ y reached. g.met.R.Rule.lawful y) size c.args.text.now;
     }

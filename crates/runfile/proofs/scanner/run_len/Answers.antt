@@ -1,15 +1,16 @@
 -- What `search` leaves of run_len.
-use Rattle.std.proofs.Common.{◌<◌, length, arith, rules, ltb-true}
-use Rattle.runfile.proofs.Steps.{run_more, run_none}
+use Rattle.std.proofs.Common.{◌∙◌, rules, tests}
+use Rattle.std.proofs.lemmas.Iterator.{YieldsList-from_slice}
+use Rattle.std.proofs.lemmas.Iterator.Consumers.{count_from_yields_List}
+use Rattle.std.proofs.lemmas.Iterator.Search.{YieldsList-from_take_while}
+use Rattle.std.proofs.lemmas.List.Folds.{length-prefix_len}
+use Rattle.grammar.specs.Bytes.{inside}
+use Rattle.runfile.proofs.Cuts.{run_taken}
 use Rattle.runfile.proofs.scanner.run_len.Goals as goal
 
-pub loop-rest-preserved : goal.loop-rest-preserved
-loop-rest-preserved c =
-    let some : 0 < length c.loop-rest.rest.now = search rules in
-    (omega (arith, run_more c.args.low c.args.high c.loop-rest.rest.now some c.if-first-low.false c.if-high-first.false), search rules)
-
-pub returns-in_default : goal.returns-in_default
-returns-in_default c = record {
-  value = omega (arith, run_none c.args.low c.args.high c.loop-rest.rest.now (omega (arith, ltb-true)));
-  bound = search rules;
-}
+pub returns-clause-value : goal.returns-clause-value
+returns-clause-value c =
+    count_from_yields_List c.take_while.result _ c.count.ensures.ran
+    (YieldsList-from_take_while _ (inside c.args.low c.args.high) (YieldsList-from_slice c.args.bytes.now cc) c.take_while.ensures.closure c.take_while.ensures.done (λ x b q k. search (rules, tests)))
+    ∙ length-prefix_len (inside c.args.low c.args.high) c.args.bytes.now
+    ∙ run_taken c.args.low c.args.high c.args.bytes.now

@@ -1,13 +1,14 @@
-use Rattle.std.proofs.Common.{box_value, ap, ◌∙◌}
-use Rattle.std.proofs.lemmas.List.{length-map}
-use Rattle.model.specs.Model.{State}
-use Rattle.line.specs.Records.{session_of}
-use Rattle.line.specs.Views.{state}
-use Rattle.line.proofs.Fresh.{fresh_made}
+use Rattle.std.proofs.Common.{List, sym, ap, subst}
+use Rattle.model.specs.Model.{Session, State}
+use Rattle.model.specs.Model.Wire.{idle}
+use Rattle.model.specs.Invariants.{Steady}
+use Rattle.model.proofs.Ranges.{goes_on}
 use Rattle.line.proofs.book.Book.new.Goals as goal
 
 pub returns : goal.returns
 returns c =
-    let b = c.args.memory.book in
-    let with-longest : State → State = λ st. record { longest = c.args.longest; time = st.time; wire = st.wire; sessions = st.sessions } in
-    ap with-longest (fresh_made (state b) (length-map (box_value b.sessions) session_of ∙ b.full) c.args.memory.fresh)
+    let line : List Session → State = λ ss. record { longest = c.args.longest; time = 0; wire = idle; sessions = ss } in
+    ap line c.memory.invariant
+
+pub invariant_of-result : goal.invariant_of-result
+invariant_of-result c = subst Steady (sym (returns c)) (goes_on.at_first (record { longest = c.args.longest }) c.requires)

@@ -1,7 +1,11 @@
-use Rattle.std.proofs.Common.{rules}
-use Rattle.line.specs.Views.{state}
-use Rattle.line.proofs.Steadies.{room_left}
+use Rattle.std.proofs.Common.{arith}
+use Rattle.std.proofs.lemmas.Grind.{common_steps}
+use Rattle.model.specs.declared.calls.Call.TheVariants.{Arrive}
+use Rattle.line.proofs.Steadies.{kept}
 use Rattle.line.proofs.book.Book.queue.Goals as goal
 
-pub enter-requires : goal.enter-requires
-enter-requires c = record { within = search rules; room = room_left (state c.args.self.now) c.requires.steady c.args.c c.requires.taken }
+pub returns-clause-after : goal.returns-clause-after
+returns-clause-after c = grind (arith, common_steps)
+
+pub invariant_of-self : goal.invariant_of-self
+invariant_of-self c = kept 0 _ c.args.self.now (Arrive c.args.c) c.self.view_is c.self.invariant _ (returns-clause-after c)

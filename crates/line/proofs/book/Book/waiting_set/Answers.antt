@@ -1,38 +1,13 @@
-use Rattle.std.proofs.Common.{◌≡◌, ◌≤◌, length, drop, box_value, sym, ap, ◌∙◌, arith, drop_of_length-le}
-use Rattle.std.proofs.lemmas.List.{length-map}
-use Rattle.line.specs.Records.{session_of}
-use Rattle.line.specs.Views.{state}
-use Rattle.line.specs.Waiting.{waiting_bit, waiting_set}
-use Rattle.line.proofs.Bits.{set_more, set_fits}
+use Rattle.std.proofs.Common.{ap, ◌∙◌}
+use Rattle.std.proofs.lemmas.Iterator.Adapters.{YieldsList-from_rev_slice}
+use Rattle.std.proofs.lemmas.Iterator.Consumers.{YieldsList-end}
+use Rattle.model.specs.Model.{State}
+use Rattle.line.specs.Waiting.{waiting_set}
+use Rattle.line.proofs.Bits.{from_last_all, set_from_last}
 use Rattle.line.proofs.book.Book.waiting_set.Goals as goal
-
-pub loop-i-init : goal.loop-i-init
-loop-i-init c =
-    let b = c.args.self.now in
-    let past : length (state b).sessions ≤ 32 = omega (arith, length-map (box_value b.sessions) session_of, b.full) in
-    sym (ap waiting_set (drop_of_length-le (state b).sessions past))
-
-pub overflow_mul-set : goal.overflow_mul-set
-overflow_mul-set c =
-    let b = c.args.self.now in
-    let full : length (state b).sessions ≡ 32 = length-map (box_value b.sessions) session_of ∙ b.full in
-    record { fits = omega (arith, c.loop-i.invariant, set_fits (state b).sessions c.loop-i.i (omega arith) (omega arith) full) }
-
-pub overflow_add-set : goal.overflow_add-set
-overflow_add-set c =
-    let b = c.args.self.now in
-    let full : length (state b).sessions ≡ 32 = length-map (box_value b.sessions) session_of ∙ b.full in
-    let bit = c.waiting_bit.ensures ∙ ap waiting_bit c.at.ensures in
-    record { fits = omega (arith, c.loop-i.invariant, bit, set_fits (state b).sessions c.loop-i.i (omega arith) (omega arith) full) }
-
-pub loop-i-preserved : goal.loop-i-preserved
-loop-i-preserved c =
-    let b = c.args.self.now in
-    let full : length (state b).sessions ≡ 32 = length-map (box_value b.sessions) session_of ∙ b.full in
-    let bit = c.waiting_bit.ensures ∙ ap waiting_bit c.at.ensures in
-    omega (arith, c.loop-i.invariant, bit, set_more (state b).sessions c.loop-i.i (omega arith) (omega arith))
 
 pub returns : goal.returns
 returns c =
-    let none : c.loop-i.i ≡ 0 = omega arith in
-    c.loop-i.invariant ∙ ap (λ n. waiting_set (drop n (state c.args.self.now).sessions)) none
+    let ss = c.self.inside.sessions in
+    let all = YieldsList-end (YieldsList-from_rev_slice ss cc) c.loop-s.yielded _ c.loop-s.yielded_by _ _ c.in-None.is c.next.ensures.steps in
+    c.loop-s.invariant.2 ∙ ap set_from_last all.0 ∙ from_last_all ss ∙ ap (λ (st : State). waiting_set st.sessions) c.self.view_is

@@ -1,14 +1,14 @@
-use Rattle.std.proofs.Common.{sym, refl, subst, arith, rules}
-use Rattle.line.specs.Sound.{Sound}
-use Rattle.line.proofs.Queues.{new_sound}
+use Rattle.std.proofs.Common.{arith, ap, sym, subst, ◌∙◌}
+use Rattle.model.specs.Model.{State, finish_keys, start_keys}
+use Rattle.model.specs.Invariants.{Steady}
+use Rattle.model.proofs.Ranges.{goes_on}
+use Rattle.line.specs.Sound.{Stamps}
 use Rattle.line.proofs.lined.Line.make.Goals as goal
 
-pub returns : goal.returns
-returns g c =
-    let finishes = g.Q.Ready.keys c.empty.result in
-    let starts = g.Q.Ready.keys c.empty-2.result in
+pub invariant_of-result : goal.invariant_of-result
+invariant_of-result g c =
     record {
-      told = search rules;
-      after = (c.new-book.ensures, refl);
-      sound = subst (Sound finishes starts) (sym c.new-book.ensures) (new_sound c.args.longest (omega arith) (omega arith) finishes starts c.empty.ensures c.empty-2.ensures);
+      steady = subst Steady (sym c.new-2.ensures) (goes_on.at_first (record { longest = c.args.longest }) (omega arith, omega arith));
+      by_finish = ap (λ (s : Stamps). s.finishes) c.new.ensures ∙ ap (λ (b : State). finish_keys b.sessions) (sym c.new-2.ensures);
+      by_start = ap (λ (s : Stamps). s.starts) c.new.ensures ∙ ap (λ (b : State). start_keys b.sessions) (sym c.new-2.ensures);
     }

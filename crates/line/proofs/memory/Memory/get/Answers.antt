@@ -1,14 +1,18 @@
-use Rattle.std.proofs.Common.{◌<◌, ◌≤◌, length, deque_capacity, ◌∙◌, arith, length-set, rules}
-use lib.Seq.{map-set_same}
-use Rattle.line.specs.Records.{session_of}
-use Rattle.line.proofs.Sweep.{room_more}
+use Rattle.std.proofs.Common.{◌≡◌, ℕ, ◌<◌, List, length, get_or, replicate, sym, ◌∙◌, arith, rules}
+use Rattle.std.proofs.lemmas.List.{get_or-replicate, length-replicate, same_lists}
+use Rattle.model.specs.Model.{Session, blank}
 use Rattle.line.proofs.memory.Memory.get.Goals as goal
 
-pub loop-s-preserved : goal.loop-s-preserved
-loop-s-preserved c =
-    let within : c.loop-s.s-index < length c.loop-s.s-items = omega arith in
-    let got : 256 ≤ deque_capacity c.reserve.new.self.waiting = search rules in (
-      length-set _ _ _ ∙ c.loop-s.invariant.0,
-      map-set_same session_of c.loop-s.s-items c.loop-s.s-index _ c.s-item.result c.reserve.ensures.same ∙ c.loop-s.invariant.1,
-      room_more c.loop-s.s-items c.loop-s.s-index _ within got c.loop-s.invariant.2,
-    )
+-- sessions that are all blank
+all_blank : (ss : List Session) (n : ℕ) → length ss ≡ n → ((k : ℕ) (d : Session) → k < n → get_or ss k d ≡ blank) → ss ≡ replicate n blank
+all_blank ss n many each =
+    same_lists ss (replicate n blank) (many ∙ sym (length-replicate n blank))
+    (λ k d lt. each k d (omega (arith, many)) ∙ sym (get_or-replicate n k blank d (omega (arith, many))))
+
+pub invariant_of-result : goal.invariant_of-result
+invariant_of-result c =
+    let made = c.in_ok-sessions.ensures.ok in
+    all_blank c.in_ok-sessions.sessions 32 made.long (λ k d lt. let one = made.at k d lt in search rules)
+
+pub returns : goal.returns
+returns c = invariant_of-result c

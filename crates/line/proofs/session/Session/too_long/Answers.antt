@@ -1,28 +1,19 @@
-use Rattle.std.proofs.Common.{◌≡◌, true, false, deque_items, sym, ap, ◌∙◌, subst, rules}
-use Rattle.std.specs.VecDeque.Iter.{deque_iter_rest}
+use Rattle.std.proofs.Common.{sym, ap, ◌∙◌, subst, rules, tests}
 use Rattle.std.specs.List.{AllByRecursion}
-use Rattle.model.specs.Model.{any}
-use Rattle.line.proofs.Lengths.{Short, long, advance_small, short_first, found, none_left, passed}
+use Rattle.std.proofs.lemmas.Iterator.Adapters.{serves_from_places}
+use Rattle.std.proofs.lemmas.Iterator.Consumers.{YieldsList-from_deque}
+use Rattle.std.proofs.lemmas.Iterator.Search.{any_from_yields_List}
+use Rattle.model.specs.Model.{Session, any}
+use Rattle.line.proofs.Lengths.{Short, any_is, long, one_short}
 use Rattle.line.proofs.session.Session.too_long.Goals as goal
 
-pub loop-packet-init : goal.loop-packet-init
-loop-packet-init c =
-    let e : deque_iter_rest c.into_iter-packet-iterator.result ≡ deque_items c.args.self.now.waiting =
-    ap deque_iter_rest c.into_iter-packet-iterator.ensures.into_iter_gives ∙ c.iter-packet-items.ensures.rest in
-    (subst (AllByRecursion Short) (sym e) c.requires.low.0, ap (any (long c.args.interval)) e)
-
-pub advance-requires : goal.advance-requires
-advance-requires c = advance_small _ c.args.interval (short_first _ _ _ c.in-Some.ensures.steps c.loop-packet.invariant.0).0 c.requires.low.1
-
-pub returns-then-advance-gt-FRAME : goal.returns-then-advance-gt-FRAME
-returns-then-advance-gt-FRAME c =
-    let yes : long c.args.interval c.in-Some.packet.now ≡ true = search rules in
-    sym (sym c.loop-packet.invariant.1 ∙ found _ _ _ c.in-Some.ensures.steps c.args.interval yes)
-
-pub loop-packet-preserved : goal.loop-packet-preserved
-loop-packet-preserved c =
-    let no : long c.args.interval c.in-Some.packet.now ≡ false = search rules in
-    ((short_first _ _ _ c.in-Some.ensures.steps c.loop-packet.invariant.0).1, sym (passed _ _ _ c.in-Some.ensures.steps c.args.interval no) ∙ c.loop-packet.invariant.1)
-
 pub returns : goal.returns
-returns c = sym (none_left _ c.args.interval c.in-None.ensures.steps.0) ∙ c.loop-packet.invariant.1
+returns c =
+    any_from_yields_List (long c.args.interval) _ _ _ c.any.ensures.ran (YieldsList-from_deque _ c.iter.ensures.rest) (λ x b q k. search (rules, tests))
+    ∙ any_is (long c.args.interval) c.self.inside.waiting.items ∙ ap (λ (s : Session). any (long c.args.interval) s.waiting) c.self.view_is
+
+pub any-requires-clause-callable : goal.any-requires-clause-callable
+any-requires-clause-callable c =
+    let all = subst (λ (s : Session). AllByRecursion Short s.waiting) (sym c.self.view_is) c.requires.short in
+    serves_from_places (YieldsList-from_deque _ c.iter.ensures.rest) (λ x q k. search rules)
+    (λ x k lt is. let low = one_short c.self.inside.waiting.items k c.args.interval x.now all c.requires.divisor lt is in search rules)

@@ -1,15 +1,15 @@
--- The walk begins with no session, and each turn adds one in front.
-use Rattle.std.proofs.Common.{◌≤◌, length, sym, ap, ◌∙◌, arith, drop_of_length-le}
-use Rattle.ready.specs.Least.{lesser, least_from}
-use Rattle.ready.proofs.Leasts.{least_more}
+-- The walk folds the entries of the slots, in the order of the sessions.
+use Rattle.std.proofs.Common.{None, ◌∙◌, rules, tests}
+use Rattle.std.proofs.lemmas.Iterator.{YieldsList-from_slice}
+use Rattle.std.proofs.lemmas.Iterator.Consumers.{fold_from_yields_List, YieldsList-from_enumerate}
+use Rattle.ready.specs.Least.{lesser, entry}
+use Rattle.ready.proofs.Leasts.{walked}
 use Rattle.ready.proofs.table.TableReady.least.Goals as goal
 
-pub loop-session-init : goal.loop-session-init
-loop-session-init c =
-    let past : length c.args.self.now.slots ≤ 32 = omega arith in
-    sym (ap (least_from 32) (drop_of_length-le c.args.self.now.slots past))
-
-pub loop-session-preserved : goal.loop-session-preserved
-loop-session-preserved c =
-    c.lesser-best.ensures ∙ ap (λ e. lesser e c.loop-session.best) c.entry_of.ensures ∙ ap (lesser _) c.loop-session.invariant
-    ∙ sym (least_more c.args.self.now.slots c.loop-session.session _ (omega arith) (omega arith))
+pub returns : goal.returns
+returns c =
+    let slots = c.args.self.now.slots in
+    fold_from_yields_List _ (λ b p. lesser b (entry p.0 p.1)) None _ c.fold.ensures.ran
+    (YieldsList-from_enumerate (YieldsList-from_slice slots cc) (cc))
+    (λ a x b q h. search (rules, tests))
+    ∙ walked None 0 slots

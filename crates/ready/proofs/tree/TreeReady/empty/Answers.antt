@@ -4,17 +4,4 @@ use Rattle.ready.proofs.Replays.{in_time_vacant}
 use Rattle.ready.proofs.tree.TreeReady.empty.Goals as goal
 
 pub invariant_of-result : goal.invariant_of-result
-invariant_of-result c = record {
-  full32 = refl;
-  full16 = refl;
-  full8 = refl;
-  full4 = refl;
-  full2 = refl;
-  own = refl;
-  early = in_time_vacant 32;
-  won16 = refl;
-  won8 = refl;
-  won4 = refl;
-  won2 = refl;
-  won1 = refl;
-}
+invariant_of-result c = record { full = refl; own = refl; early = in_time_vacant 32; won = refl }

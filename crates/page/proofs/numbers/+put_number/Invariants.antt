@@ -1,5 +1,0 @@
--- Each turn has one digit less to lay.
-use Rattle.page.proofs.numbers.+put_number.Given as goal
-
-abbrev pub decreases-put_number : goal.decreases-put_number
-decreases-put_number l = l.number

@@ -1,8 +1,0 @@
--- What `search` leaves of pick_slot.
-use Rattle.std.proofs.Common.{sym}
-use Rattle.grammar.specs.Forms.{pick_row}
-use Rattle.runfile.proofs.Lookups.{no_place}
-use Rattle.runfile.proofs.words.pick_slot.Goals as goal
-
-pub returns-in_default : goal.returns-in_default
-returns-in_default c = sym (no_place pick_row.names c.args.word.now (c.in_default.not-at, (c.in_default.not-rule, tt)))
