@@ -1,14 +1,15 @@
 -- The lists that are taken: no packet is bad just where each has a size in range and none comes before the one in front.
-use Rattle.std.proofs.Common.{◌≡◌, ℕ, zero, suc, ◌%◌, ◌<◌, ◌≤◌, Bool, true, false, cond, List, [], ◌∷◌, length, get_or, Some, None, refl, ap, add-one, inl, inr, mod-eq_of_lt, arith}
+use Rattle.std.proofs.Common.{◌≡◌, ℕ, zero, suc, ◌+◌, ◌%◌, ◌<◌, ◌≤◌, ◌↔◌, Bool, true, false, IsTrue, cond, List, [], ◌∷◌, length, get_or, drop, Some, None, sym, refl, ap, ◌∙◌, add-one, inl, inr, mod-eq_of_lt, arith}
 use Rattle.std.specs.List.{All}
 use Rattle.std.specs.List.Sorted.{IsNonDecreasingBy}
-use Rattle.std.proofs.lemmas.Bool.{cases_lt}
+use Rattle.std.proofs.lemmas.Bool.{cases_lt, false≢true}
 use Rattle.std.proofs.lemmas.Bool.Decides.{nat_tests}
+use Rattle.std.proofs.lemmas.List.{at_drop_more}
 use Rattle.std.proofs.lemmas.List.Sorted.{IsNonDecreasingBy-from_all_adjacent}
 use Rattle.model.specs.declared.calls.Parcel.{Parcel}
 use Rattle.model.specs.declared.calls.Refusal.TheVariants as refused
 use Rattle.model.specs.Model.{frame, bad_interval}
-use Rattle.burst.specs.Tool.{most_bytes, bad_packets, bad_list, no_packet, arrival_at}
+use Rattle.burst.specs.Tool.{most_bytes, bad_packet, bad_packets, bad_list, no_packet, arrival_at}
 use Rattle.burst.specs.Laws.{Fine, Sound, SoundTaken}
 
 -- an interval divides the frame, so it is not above it
@@ -55,6 +56,21 @@ fine ps size order =
 
 pub none_bad : (ps : List Parcel) → All (λ p. (0 < p.bytes) × (p.bytes ≤ most_bytes)) ps → IsNonDecreasingBy (λ p. p.arrival) ps → bad_packets 0 ps ≡ false
 none_bad ps size order = unfine 0 ps (λ lt. omega arith) (fine ps size order)
+
+-- a list of which no packet is bad, and one with a bad packet
+pub all_good : (ps : List Parcel) → bad_packets 0 ps ≡ false
+    → IsTrue true ↔ (All (λ p. (0 < p.bytes) × (p.bytes ≤ most_bytes)) ps × IsNonDecreasingBy (λ p. p.arrival) ps)
+all_good ps good = (λ t. (sized ps good, rising ps good), λ h. refl)
+
+pub some_bad : (ps : List Parcel) → bad_packets 0 ps ≡ true
+    → IsTrue false ↔ (All (λ p. (0 < p.bytes) × (p.bytes ≤ most_bytes)) ps × IsNonDecreasingBy (λ p. p.arrival) ps)
+some_bad ps bad = (λ t. absurd (false≢true t), λ h. absurd (false≢true (sym (none_bad ps h.0 h.1) ∙ bad)))
+
+-- the packet at i is bad
+pub stops : (ps : List Parcel) (i time : ℕ) → i < length ps → bad_packet time (get_or ps i no_packet) ≡ true → bad_packets time (drop i ps) ≡ true
+stops ps i time lt bad =
+    let e : bad_packets time (drop i ps) ≡ bad_packets time (get_or ps i no_packet ∷ drop (i + 1) ps) = at_drop_more (bad_packets time) ps i no_packet lt in
+    grind (arith, nat_tests)
 
 -- what the checks leave, for the tactic of the list's constructor
 pub ruleset list_checks = (in_frame, none_bad, sized, rising, nat_tests)

@@ -4,7 +4,7 @@ ghost use Rattle.std.specs.List.Sorted.{IsNonDecreasingBy};
 ghost use Rattle.std.proofs.Props.{props};
 ghost use Rattle.model.specs.Model.{frame};
 ghost use Rattle.model.specs.Bursts.{windows, burst, brought};
-ghost use Rattle.burst.specs.Tool.{most_packets, most_bytes, arrival_at, list_refusal};
+ghost use Rattle.burst.specs.Tool.{most_packets, most_bytes, bad_packet, arrival_at, list_refusal};
 
 use super::window::Window;
 use model::calls::{Parcel, Refusal};
@@ -12,20 +12,26 @@ use model::limits::{LONGEST, advance, bad_interval};
 
 const MOST_PACKETS: usize = 4_096;
 
-// Each packet has bytes, and no more than one can have.
-fn are_sized(packets: &[Parcel]) -> bool
-    ensures { IsTrue result ↔ All (λ p. (0 < p.bytes) × (p.bytes ≤ most_bytes)) packets.now }
+// The time is the arrival of the packet in front.
+fn is_bad_packet(time: u64, packet: Parcel) -> bool
+    ensures { result ≡ bad_packet time packet }
 {
-    packets
-        .iter()
-        .all(|packet| (1..=LONGEST).contains(&packet.bytes))
+    packet.bytes == 0 || packet.bytes > LONGEST || packet.arrival < time
 }
 
-// None arrives before the one in front of it; the first has none in front, and may come at any time.
-fn are_rising(packets: &[Parcel]) -> bool
-    ensures { IsTrue result ↔ IsNonDecreasingBy (λ p. p.arrival) packets.now }
+// Each packet has bytes, and no more than one can have, and none arrives before the one in front of it; the first has
+// none in front, and may come at any time. One walk, which stops at the first bad packet.
+fn are_sound(packets: &[Parcel]) -> bool
+    ensures { IsTrue result ↔ (All (λ p. (0 < p.bytes) × (p.bytes ≤ most_bytes)) packets.now × IsNonDecreasingBy (λ p. p.arrival) packets.now) }
 {
-    packets.is_sorted_by_key(|packet| packet.arrival)
+    let mut time = 0;
+    for packet in packets {
+        if is_bad_packet(time, *packet) {
+            return false;
+        }
+        time = packet.arrival;
+    }
+    true
 }
 
 // A list that is taken, or what is left of one behind some of its packets.
@@ -45,11 +51,7 @@ impl<'a> Traffic<'a> {
     pub(crate) fn new(interval: u64, packets: &'a [Parcel]) -> Result<Traffic<'a>, Refusal>
         ensures { elim result [ Ok t ↦ (list_refusal interval packets.now ≡ None) × (t.interval ≡ interval) × (t.packets.now ≡ packets.now) | Err e ↦ list_refusal interval packets.now ≡ Some e ] }
     {
-        if bad_interval(interval)
-            || packets.len() > MOST_PACKETS
-            || !are_sized(packets)
-            || !are_rising(packets)
-        {
+        if bad_interval(interval) || packets.len() > MOST_PACKETS || !are_sound(packets) {
             return Err(Refusal::List);
         }
         Ok(Traffic { interval, packets })

@@ -11,11 +11,11 @@ abbrev pub session_of : Inside → M.Session
 session_of s =
     record { is_open = s.«open»; interval = s.interval; places = s.places; last_finish = s.last_finish; last_due = s.last_due; held = s.held; mark = s.mark; start = s.start; due_start = s.due_start; waiting = s.waiting.items }
 
--- What every session keeps: its share and held share are parts of a frame, and it has memory for as many packets as all places of a line.
+-- What every session keeps: its share and held share are parts of a frame, and it has memory for just as many packets as all places of a line.
 pub record Lasting (s : Inside) : Type 0 where
   pub divides : s.«open» ≡ true → 0 < s.interval
   pub held : s.held ≤ M.frame
-  pub room : 256 ≤ deque_capacity s.waiting
+  pub room : deque_capacity s.waiting ≡ 256
 
 -- The packet on the wire.
 abbrev pub sending_of : Sending → M.Sending

@@ -9,7 +9,7 @@ use Rattle.line.specs.declared.book.Book.TheInside.{Inside}
 
 -- The book of a line is its state.
 abbrev pub state_of : Inside → M.State
-state_of b = record { longest = b.longest; time = b.time; wire = wire_of b.wire; sessions = b.sessions }
+state_of b = record { longest = b.longest; time = b.time; wire = wire_of b.wire; sessions = b.sessions.value }
 
 -- What is counted of sessions at the position x.
 abbrev pub booked : ℕ → List M.Session → ℕ

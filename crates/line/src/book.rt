@@ -11,13 +11,13 @@ use super::wire::Sending;
 use ready::key::Key;
 use std::marker::Model;
 
-// A line, its sessions in it, moves a few times as it is made, and no call moves it.
+// The sessions stand behind a box: what is moved as a line is made stays small, and so does the stack of a run.
 #[derive(Drop)]
 pub struct Book {
     pub(crate) longest: u64,
     pub(crate) time: u64,
     pub(crate) wire: Option<Sending>,
-    pub(crate) sessions: [Session; 32],
+    pub(crate) sessions: Box<[Session; 32]>,
 }
 
 impl Model for Book {

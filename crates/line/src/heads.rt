@@ -48,6 +48,7 @@ impl<Q: Ready + Drop> Heads<Q> {
     pub(crate) fn least(&self) -> Option<(Entry, Entry)>
         ensures { result ≡ both (least self.now.finishes) (least self.now.starts) }
     {
-        self.finishes.least().zip(self.starts.least())
+        let first = self.finishes.least()?;
+        Some((first, self.starts.least()?))
     }
 }

@@ -1,12 +1,14 @@
 // A line, whatever its rule and its ready queues. Each call is answered, and leaves the line and its rule, as the rules say.
-ghost use Rattle.std.specs.Prelude.{◌≡◌, max, false, Some, None, Ok, Err};
+ghost use Rattle.std.specs.Prelude.{◌≡◌, max, false, Some, None, Ok, Err, OnOk};
 ghost use Rattle.model.specs.declared.calls.Call.TheVariants.{Open, Close, Change as Changing, Pick, Arrive, Depart};
 ghost use Rattle.model.specs.Answers.{Left, answer_of, left, said};
 ghost use Rattle.model.specs.Model.{made, make_refusal, resting};
 ghost use Rattle.model.specs.Model.Wire.{idle, sending};
+ghost use Rattle.model.specs.Promises.{Proper};
 ghost use Rattle.line.specs.Calls.{Held, answer_to, line_after};
 ghost use Rattle.line.specs.Records.{sending_of};
 ghost use Rattle.line.specs.Sound.{Sound};
+ghost use Rattle.line.specs.Views.{refused};
 
 use super::book::Book;
 use super::heads::Heads;
@@ -41,21 +43,34 @@ fn lifted<R: Rule>(rule: &R, sum: u64, least_start: u64, least_finish: u64) -> u
     sum.max(rule.base(least_start, least_finish))
 }
 
+// Whether a line may be made for packets of at most so many bytes.
+pub fn may_make(longest: u64) -> Result<(), Refusal>
+    ensures told { refused result ≡ make_refusal longest }
+    ensures proper { OnOk result (Proper (record { longest = longest })) }
+{
+    if longest == 0 || longest > LONGEST {
+        return Err(Refusal::Longest);
+    }
+    Ok(())
+}
+
 impl<R: Rule + Drop, Q: Ready + Drop> Line<R, Q> {
     // A new line: all sessions closed, nothing waits or is sent. A refusal hands the parts back.
     pub fn make(longest: u64, parts: Parts<R>) -> Result<Line<R, Q>, (Refusal, Parts<R>)>
         ensures told { elim result [ Ok l ↦ make_refusal longest ≡ None | Err e ↦ make_refusal longest ≡ Some e.0 ] }
         ensures after { elim result [ Ok l ↦ l ≡ record { rule = parts.rule; state = made (record { longest = longest }) } | Err e ↦ e.1 ≡ parts ] }
     {
-        if longest == 0 || longest > LONGEST {
-            return Err((Refusal::Longest, parts));
+        match may_make(longest) {
+            Err(refusal) => Err((refusal, parts)),
+            Ok(()) => {
+                let Parts { memory, rule } = parts;
+                Ok(Line {
+                    rule,
+                    heads: Heads::new(),
+                    book: Book::new(longest, memory),
+                })
+            }
         }
-        let Parts { memory, rule } = parts;
-        Ok(Line {
-            rule,
-            heads: Heads::new(),
-            book: Book::new(longest, memory),
-        })
     }
 
     // Opens a session.

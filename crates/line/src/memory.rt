@@ -10,7 +10,7 @@ use std::marker::Model;
 // The sessions of a line that is not made yet, with memory for all the packets that can ever wait.
 #[derive(Drop)]
 pub struct Memory {
-    pub(crate) sessions: [Session; 32],
+    pub(crate) sessions: Box<[Session; 32]>,
 }
 
 impl Model for Memory {
@@ -19,9 +19,9 @@ impl Model for Memory {
 
     ghost Value = { List M.Session };
 
-    ghost view = { λ m. m.sessions };
+    ghost view = { λ m. m.sessions.value };
 
-    ghost invariant = { λ m. m.sessions ≡ replicate 32 M.blank };
+    ghost invariant = { λ m. m.sessions.value ≡ replicate 32 M.blank };
 }
 
 // What a line is made of.
@@ -37,6 +37,8 @@ impl Memory {
         ensures { IfOk result (λ m. m ≡ replicate 32 blank) }
     {
         let sessions = array::try_from_fn(|_| Session::new(heap))?;
-        Ok(Memory { sessions })
+        Ok(Memory {
+            sessions: Box::new(heap, sessions)?,
+        })
     }
 }

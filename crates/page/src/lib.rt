@@ -42,6 +42,7 @@ impl Page<'_> {
     }
 
     // Room is asked for, and is no part of the type, since how much is needed depends on the text.
+    #[inline]
     pub fn put_bytes(&mut self, bytes: &[u8])
         requires { HasRoom self.old (length bytes.now) }
         ensures { self.new ≡ laid self.old bytes.now }
@@ -52,6 +53,7 @@ impl Page<'_> {
     }
 
     // Lays the number in decimal, with no leading zero, and a minus sign before a negative one.
+    #[inline]
     pub fn put_number<I: Integer>(&mut self, number: I)
         requires { HasRoom self.old (length (I.text number)) }
         ensures { self.new ≡ laid self.old (I.text number) }

@@ -23,6 +23,7 @@ impl Piece<'_> {
 }
 
 impl Page<'_> {
+    #[inline(always)]
     pub fn put(&mut self, piece: Piece<'_>)
         requires { HasRoom self.old (length (piece_text piece)) }
         ensures { self.new ≡ laid self.old (piece_text piece.entry) }
@@ -34,6 +35,7 @@ impl Page<'_> {
     }
 
     // Lays the pieces one behind another.
+    #[inline(always)]
     #[tactic(auto, using(crate::proofs::Lines::room_for_next, crate::proofs::Lines::next_laid))]
     pub fn put_line(&mut self, pieces: &[Piece<'_>])
         requires { HasRoom self.old (length (line_text pieces.now)) }

@@ -1,5 +1,5 @@
 -- One changed leaf: each match above it is played again, and the leaves stay in their places.
-use Rattle.std.proofs.Common.{◌≡◌, ℕ, zero, suc, ◌+◌, ◌-◌, ◌*◌, ◌/◌, ◌<◌, ◌≤◌, true, List, [], ◌∷◌, length, get_or, set, take, drop, replicate, Option, sym, refl, ap, ◌∙◌, arith}
+use Rattle.std.proofs.Common.{◌≡◌, ℕ, zero, suc, ◌+◌, ◌-◌, ◌*◌, ◌/◌, ◌^◌, ◌<◌, ◌≤◌, true, List, [], ◌∷◌, length, get_or, set, take, drop, replicate, Option, sym, refl, ap, ◌∙◌, arith}
 use lib.Seq.{map-set}
 use Rattle.std.proofs.Math.Seq.{take-set-lt}
 use Rattle.std.proofs.lemmas.Bool.{and_parts, and_from}
@@ -26,6 +26,19 @@ winners_set (a ∷ b ∷ es) (suc (suc i)) (suc h) x d at within =
     let e : suc (suc (h + h)) ≡ suc h + suc h = omega arith in
     ap (λ l. winner a b ∷ l) (winners_set es i h x d (omega (arith, at.0), omega (arith, at.1)) (omega arith))
     ∙ ap (λ n. set (winner a b ∷ winners es) (suc h) (winner (get_or (a ∷ b ∷ set es i x) n d) (get_or (a ∷ b ∷ set es i x) (suc n) d))) e
+
+-- the first node of a level, and of the next one
+pub record Half (level first : ℕ) : Type 0 where
+  pub odd : first ≡ 2 * (first / 2) + 1
+  pub next : suc (first / 2) ≡ 2 ^ (5 - (level + 1))
+
+pub half : (level first : ℕ) → level < 5 → suc first ≡ 2 ^ (5 - level) → Half level first
+half zero first lt at = record { odd = omega arith; next = omega arith }
+half (suc zero) first lt at = record { odd = omega arith; next = omega arith }
+half (suc (suc zero)) first lt at = record { odd = omega arith; next = omega arith }
+half (suc (suc (suc zero))) first lt at = record { odd = omega arith; next = omega arith }
+half (suc (suc (suc (suc zero)))) first lt at = record { odd = omega arith; next = omega arith }
+half (suc (suc (suc (suc (suc k))))) first lt at = absurd (omega arith)
 
 -- the match above a written node is to be played again
 pub up : (nodes : List Entry) (n h : ℕ) (x w d : Entry) → h ≡ (n - 1) / 2 → 0 < n → n < 63 → length nodes ≡ 63

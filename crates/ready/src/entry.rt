@@ -15,8 +15,9 @@ pub(crate) fn lesser(a: Option<Entry>, b: Option<Entry>) -> Option<Entry>
     ensures { result ≡ lesser a b }
 {
     match (a, b) {
+        (None, _) => b,
+        (_, None) => a,
         (Some(x), Some(y)) => if x.key.no_later(y.key) { a } else { b },
-        _ => a.or(b),
     }
 }
 

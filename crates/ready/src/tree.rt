@@ -15,6 +15,9 @@ const VACANT: Entry = Entry {
     session: SESSIONS,
 };
 
+// How many matches are above a leaf.
+const LEVELS: u32 = 5;
+
 // A knock-out over 32 leaves, the root first: the children of node n are the nodes 2n + 1 and 2n + 2, each node
 // above the leaves is the winner of its children, and the leaf of session i is node 31 + i. A vacant entry is in
 // place of `None`: with nodes of `Option<Entry>` a put and a least took half as long again at random keys.
@@ -75,7 +78,8 @@ fn shown(entry: Entry) -> Option<Entry>
     (entry.session < SESSIONS).then_some(entry)
 }
 
-// Writes a session's leaf and plays its matches again, up to the root.
+// Writes a session's leaf and plays its matches again, up to the root. `first` is the first node of a level, and the
+// turns are counted: so the compiler lays them out one after the other, with no jump.
 fn replay(nodes: &mut [Entry; 63], session: usize, leaf: Entry)
     requires within { session < 32 }
     requires won { winners (drop 1 nodes.old) ≡ take 31 nodes.old }
@@ -83,11 +87,14 @@ fn replay(nodes: &mut [Entry; 63], session: usize, leaf: Entry)
     ensures leaves { drop 31 nodes.new ≡ slice_set (drop 31 nodes.old) session leaf }
     ensures won { winners (drop 1 nodes.new) ≡ take 31 nodes.new }
 {
-    let mut node = 31 + session;
+    let mut first = 31;
+    let mut place = session;
     let mut entry = leaf;
-    while node > 0 {
-        nodes[node] = entry;
-        node = (node - 1) / 2;
+    for level in 0..LEVELS {
+        nodes[first + place] = entry;
+        first /= 2;
+        place /= 2;
+        let node = first + place;
         entry = winner(nodes[2 * node + 1], nodes[2 * node + 2]);
     }
     nodes[0] = entry;

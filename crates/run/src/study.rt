@@ -1,5 +1,5 @@
 // A study: no line yet, with what it will be made of, or a line; and what a form of a run file comes to on it.
-use line::lined::Line;
+use line::lined::{Line, may_make};
 use line::memory::Parts;
 use model::calls::{Answer, Call};
 use ready::queue::Ready;
@@ -48,11 +48,18 @@ impl<R: Rule + Drop, Q: Ready + Drop> Study<R, Q> {
         }
     }
 
-    // Makes the line, unless there is one.
+    // Makes the line, unless there is one. Its parts are moved only where it is made: a link that is refused or out of order
+    // leaves them where they are.
     fn link(&mut self, longest: u64) -> Option<Answer>
         ensures told { reply_of result ≡ stage_reply R.Rule.acts self.old (makes longest) }
         ensures after { self.new ≡ stage_after R.Rule.acts self.old (makes longest) }
     {
+        if let Some(Phase::Linked(_)) = &self.phase {
+            return None;
+        }
+        if let Err(refusal) = may_make(longest) {
+            return Some(Err(refusal));
+        }
         match self.phase.take()? {
             Phase::Unlinked(parts) => {
                 let (phase, answer) = match Line::make(longest, parts) {

@@ -1,12 +1,13 @@
 -- How many bytes at the front of a text pass a test. Assumes nothing.
 use Rattle.std.proofs.Common.{◌≡◌, ℕ, ◌≤◌, drop, ap, add-one, suc, not, true, false, cond, ltb, List, [], ◌∷◌, length, Some, None, refl, ◌∙◌, one-add, arith}
-use Rattle.std.specs.Prelude.{◌==◌, unwrap_or}
+use Rattle.std.specs.Prelude.{◌==◌}
 use Rattle.std.specs.List.{prefix_len, position_or_len}
-use Rattle.std.proofs.lemmas.Bool.Decides.{nat_tests}
 use Rattle.std.proofs.lemmas.List.{drop-drop}
 use Rattle.std.proofs.lemmas.List.Sums.{prefix_len-le-length}
 use Rattle.grammar.specs.Bytes.{inside, run_length}
 use Rattle.grammar.specs.Lines.{line_length}
+use Rattle.runfile.specs.Cutting.{EndsFirst}
+use Rattle.std.proofs.lemmas.Bool.{cond_both, ltb-true, ltb-false}
 
 pub run_taken : (lo hi : ℕ) (bs : List ℕ) → prefix_len (inside lo hi) bs ≡ run_length lo hi bs
 run_taken lo hi [] = refl
@@ -16,11 +17,12 @@ line_taken : (bs : List ℕ) → position_or_len (λ b. b == 10) bs ≡ line_len
 line_taken [] = refl
 line_taken (b ∷ bs) = rw (one-add, line_taken bs) (elim (b == 10) as (λ t. cond (not t) (suc (line_length bs)) 0 ≡ cond t 0 (suc (line_length bs))) [ true ↦ refl | false ↦ refl ])
 
-or_all : (i n : ℕ) → i ≤ n → unwrap_or (cond (ltb i n) (Some i) None) n ≡ i
-or_all i n h = grind (arith, nat_tests)
-
-pub line_found : (bs : List ℕ) → unwrap_or (cond (ltb (position_or_len (λ b. b == 10) bs) (length bs)) (Some (position_or_len (λ b. b == 10) bs)) None) (length bs) ≡ line_length bs
-line_found bs = or_all _ _ (prefix_len-le-length (λ b. not (b == 10)) bs) ∙ line_taken bs
+-- where a line end is found, the first line ends
+pub line_found : (bs : List ℕ) → EndsFirst bs (cond (ltb (position_or_len (λ b. b == 10) bs) (length bs)) (Some (position_or_len (λ b. b == 10) bs)) None)
+line_found bs =
+    let n = position_or_len (λ b. b == 10) bs in
+    let few : n ≤ length bs = prefix_len-le-length (λ b. not (b == 10)) bs in
+    cond_both (ltb n (length bs)) _ _ (EndsFirst bs) (λ t. (line_taken bs, ltb-true n (length bs) t)) (λ f. omega (arith, few, ltb-false n (length bs) f, line_taken bs))
 
 -- behind a line, its end is passed over, if it has one
 pub behind_end : (xs back : List ℕ) (n : ℕ) → back ≡ drop n xs → drop 1 back ≡ drop (suc n) xs

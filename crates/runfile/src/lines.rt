@@ -2,19 +2,27 @@
 ghost use Rattle.std.specs.Prelude.{◌≡◌, ◌≤◌, length, drop};
 ghost use Rattle.std.specs.Iterator.{at_most};
 ghost use Rattle.grammar.specs.Lines.{line_length};
-ghost use Rattle.runfile.specs.Cutting.{CutsLine};
+ghost use Rattle.runfile.specs.Cutting.{CutsLine, EndsFirst};
 
 // The byte that ends a line.
 pub const LINE_END: u8 = b'\n';
+
+// The first line end.
+fn first_end(text: &[u8]) -> Option<usize>
+    ensures { EndsFirst text.now result }
+{
+    text.iter().position(|b| *b == LINE_END)
+}
 
 // How many bytes stand before the first line end, or in all.
 pub fn line_len(text: &[u8]) -> usize
     ensures value { result ≡ line_length text.now }
     ensures bound { result ≤ length text.now }
 {
-    text.iter()
-        .position(|b| *b == LINE_END)
-        .unwrap_or(text.len())
+    match first_end(text) {
+        Some(i) => i,
+        None => text.len(),
+    }
 }
 
 // The bytes behind the first one.

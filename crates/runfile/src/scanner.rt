@@ -88,9 +88,13 @@ impl<'a> Reader<'a> {
         ensures moves { Moves scan_met self.old result self.new }
         ensures found { IfOk result (λ f. Along (line_end self.old) self.old.place f.1) }
     {
+        // The reader moves once: a copy of it goes on, first to the token and then behind it.
+        let mut on = *self;
         let n = blanks(self.rest);
-        self.go_to(&self.rest[n..]);
-        let place = self.place;
-        self.begin().map(|token| (token, place))
+        on.go_to(&self.rest[n..]);
+        let place = on.place;
+        let token = on.begin()?;
+        *self = on;
+        Ok((token, place))
     }
 }

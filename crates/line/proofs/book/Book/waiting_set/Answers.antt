@@ -8,6 +8,6 @@ use Rattle.line.proofs.book.Book.waiting_set.Goals as goal
 
 pub returns : goal.returns
 returns c =
-    let ss = c.self.inside.sessions in
+    let ss = c.self.inside.sessions.value in
     let all = YieldsList-end (YieldsList-from_rev_slice ss cc) c.loop-s.yielded _ c.loop-s.yielded_by _ _ c.in-None.is c.next.ensures.steps in
     c.loop-s.invariant.2 ∙ ap set_from_last all.0 ∙ from_last_all ss ∙ ap (λ (st : State). waiting_set st.sessions) c.self.view_is

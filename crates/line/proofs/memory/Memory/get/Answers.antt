@@ -12,7 +12,7 @@ all_blank ss n many each =
 pub invariant_of-result : goal.invariant_of-result
 invariant_of-result c =
     let made = c.in_ok-sessions.ensures.ok in
-    all_blank c.in_ok-sessions.sessions 32 made.long (λ k d lt. let one = made.at k d lt in search rules)
+    c.in_ok-new.ensures.ok ∙ all_blank c.in_ok-sessions.sessions 32 made.long (λ k d lt. let one = made.at k d lt in search rules)
 
 pub returns : goal.returns
 returns c = invariant_of-result c
