@@ -23,6 +23,7 @@ impl Piece<'_> {
 }
 
 impl Page<'_> {
+    // Inlined, as `put_line` is: a line is a list of pieces that is known where it is laid, and is unrolled there.
     #[inline(always)]
     pub fn put(&mut self, piece: Piece<'_>)
         requires { HasRoom self.old (length (piece_text piece)) }

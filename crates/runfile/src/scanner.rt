@@ -11,7 +11,7 @@ use crate::faults::ScanFault;
 use crate::numbers::Digits;
 use crate::place::Place;
 use crate::reader::Reader;
-use std::str::from_utf8;
+use std::str::from_utf8_unchecked;
 
 // The blank, which may stand around tokens.
 const BLANK: u8 = b' ';
@@ -67,7 +67,8 @@ impl<'a> Reader<'a> {
             [b'a'..=b'z', ..] => {
                 let (word, rest) = bytes.split_at(run_len(bytes, b'a', b'z'));
                 self.go_to(rest);
-                Ok(Some(Token::Word(from_utf8(word).unwrap())))
+                // Letters are text: that is proved, and nothing has to test it again.
+                Ok(Some(Token::Word(unsafe { from_utf8_unchecked(word) })))
             }
             [b'0'..=b'9', ..] => {
                 let n = run_len(bytes, b'0', b'9');

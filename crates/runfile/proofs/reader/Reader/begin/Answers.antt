@@ -15,7 +15,7 @@ invariant_of-result c =
     }
 
 -- Letters are text.
-pub unwrap-requires : goal.unwrap-requires
-unwrap-requires c =
+pub from_utf8_unchecked-requires : goal.from_utf8_unchecked-requires
+from_utf8_unchecked-requires c =
     let text = letters_text c.args.self.now.rest.now c.split_at-in-97-to-122.result.0.now c.run_len.result c.run_len.ensures.value (search rules) in
     search rules
