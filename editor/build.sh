@@ -8,6 +8,6 @@ kit=$(dirname "$(rt doc)")
 mkdir -p target/staticlib
 cp crates/run_c/out/librun_c.a target/staticlib/librun.a
 for program in study edges; do
-    "${CC:-cc}" -std=c11 -O2 -Wall -Wextra -Werror -pedantic -Ieditor \
+    "${CC:-cc}" -std=c11 -O2 -Wall -Wextra -Werror -pedantic -pthread -Ieditor \
         "editor/$program.c" target/staticlib/librun.a "$kit/c/liblibc_c.a" -o "target/$program"
 done

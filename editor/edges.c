@@ -1,8 +1,11 @@
 /* Calls the run at the edges of its text and its page, and compares all that it
  * answers, and all that it leaves, byte by byte. */
+#define _POSIX_C_SOURCE 200809L
+
 #include "waskurin.h"
 
 #include <inttypes.h>
+#include <pthread.h>
 #include <stdio.h>
 #include <stdlib.h>
 #include <string.h>
@@ -12,6 +15,9 @@
 
 /* Bytes before and behind a page, which are not the run's. */
 #define GUARD 64
+
+/* A thread's stack on which a run still answers. */
+#define SMALL_STACK 24576
 
 #define LINK "(link (longest 100))\n"
 #define DEPART "(depart)\n"
@@ -274,6 +280,29 @@ static void nothing_kept(void)
     passed++;
 }
 
+static void *run_listing(void *name)
+{
+    check(name, ROOM);
+    return NULL;
+}
+
+/* A run that needs more stack ends the program here. */
+static void small_stack(void)
+{
+    static char name[] = "the listing on a small stack";
+    pthread_attr_t attributes;
+    pthread_t thread;
+    study(listing);
+    answers(listing_answers);
+    if (pthread_attr_init(&attributes) != 0 ||
+        pthread_attr_setstacksize(&attributes, SMALL_STACK) != 0 ||
+        pthread_create(&thread, &attributes, run_listing, name) != 0 ||
+        pthread_join(thread, NULL) != 0) {
+        fprintf(stderr, "edges: %s: no thread\n", name);
+        exit(1);
+    }
+}
+
 int main(void)
 {
     small_pages();
@@ -284,6 +313,7 @@ int main(void)
     full_pages();
     last_lines();
     nothing_kept();
+    small_stack();
     printf("edges: %u checks passed\n", passed);
     return fflush(stdout) == 0 ? 0 : 1;
 }

@@ -3,8 +3,8 @@ ghost use Rattle.std.specs.Prelude.{◌≡◌, replicate, IfOk};
 ghost use Rattle.model.specs.Model.{blank};
 
 use super::session::Session;
+use ready::queue::SESSIONS;
 use std::alloc::{AllocError, Global};
-use std::array;
 use std::marker::Model;
 
 // The sessions of a line that is not made yet, with memory for all the packets that can ever wait.
@@ -36,7 +36,15 @@ impl Memory {
     pub fn get(heap: Global) -> Result<Memory, AllocError>
         ensures { IfOk result (λ m. m ≡ replicate 32 blank) }
     {
-        let sessions = array::try_from_fn(|_| Session::new(heap))?;
+        // The records are gathered in a `Vec`: `array::try_from_fn`, which want of memory may cut short, takes several times
+        // the array's size of the stack.
+        let mut records = Vec::with_capacity(heap, SESSIONS)?;
+        for _ in 0..SESSIONS {
+            records.push_reserved(Session::new(heap)?);
+        }
+        let Ok(sessions) = <[Session; SESSIONS]>::try_from(records) else {
+            unreachable!()
+        };
         Ok(Memory {
             sessions: Box::new(heap, sessions)?,
         })
